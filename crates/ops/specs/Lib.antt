@@ -1,0 +1,5 @@
+pub mod Numbers
+pub mod Ops
+pub mod Stores
+pub mod Wrote
+pub mod Loops
