@@ -2,6 +2,7 @@
 -- Assumes nothing.
 use Prim.Native.Nat.{ℕ, _*_}
 use mathlib.Core.Path.{_≡_, refl, ap, _∙_, sym}
+use mathlib.Core.Bool.{Bool, true, false}
 use mathlib.Core.List.{List, [], _∷_, _++_, append-assoc}
 use lib.ListN.{length}
 use Rattle.ops.specs.Numbers.{delay, cycles}
@@ -11,8 +12,15 @@ infix 70 _≔_
 pub data Setting : Type 0 where
   _≔_ : ℕ → ℕ → Setting
 
+-- a flag as a field's value
+abbrev pub bit : Bool → ℕ
+bit false = 0
+bit true = 1
+
 -- An operation names its register, and its index: the endpoint, the place in `link_lmp_tx_data`, or 0. A write or a
--- modify sets at least one field, and its fields stand in the source's order.
+-- modify sets at least one field, and its fields stand in the source's order; fields that a write doesn't name are 0.
+-- `modifyIfDiffers` leaves a field alone that has the value already, `wait` is for so many cycles, `clearBits` clears
+-- those bits of a field that the value has.
 pub data Op : Type 0 where
   write : ℕ → ℕ → Setting → List Setting → Op
   modify : ℕ → ℕ → Setting → List Setting → Op

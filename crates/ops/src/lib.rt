@@ -9,7 +9,10 @@ ghost use Rattle.ops.specs.Wrote.{rowRecord, rowRecords};
 
 pub mod numbers;
 
-// Kind, register, index, field, value.
+// How many numbers a record has.
+pub const WIDTH: usize = 5;
+
+// What a record says: kind, register, index, field, value.
 pub type Row = [u32; 5];
 
 // One record, stored at `at`: the end position.
@@ -22,7 +25,7 @@ pub fn put(ops: &mut [u32], at: usize, row: &Row) -> usize
     ops[at + 2] = row[2];
     ops[at + 3] = row[3];
     ops[at + 4] = row[4];
-    at + 5
+    at + WIDTH
 }
 
 // A record for each row, stored from `at` on: the end position.

@@ -1,17 +1,14 @@
+-- After k turns the records of the first k rows stand in the list. Assumes nothing.
 use borrow.Author.Needs.{needs}
 use native.Mathlib.Omega.{arith}
 use mathlib.Core.Path.{_≡_, _∙_, ap}
-use Prim.Native.Nat.{ℕ, _≤_, _-_, _+_}
-use mathlib.Core.List.{List}
+use Prim.Native.Nat.{ℕ, _≤_, _-_}
 use lib.ListN.{length, take, length-take}
 use lib.Seq.{take-length}
 use Rattle.ops.specs.Stores.{Stored, _then_, nothing, stored-length, stored-same}
 use Rattle.ops.specs.Wrote.{rowRecords, row-more, rows-length}
 use Rattle.ops.proofs.append.Statement.{statement}
 use Rattle.ops.proofs.append.Tie as tie
-use Rattle.ops.proofs.append.Reads as reads
-use Rattle.ops.proofs.append.Lts as lts
-use Rattle.ops.proofs.put.Reads as put-reads
 
 abbrev Inv-loop : tie.InvT-loop
 Inv-loop ops₀ at rows a₀ k₀ ops a k = (k ≤ length rows) × Stored ops₀ at (rowRecords (take k rows)) a ops
@@ -19,34 +16,27 @@ Inv-loop ops₀ at rows a₀ k₀ ops a k = (k ≤ length rows) × Stored ops₀
 abbrev μ-loop : tie.MeasureT-loop
 μ-loop ops₀ at rows a₀ k₀ ops a k = length rows - k
 
--- src/lib.rt:37:5
 loop-holds : tie.Need-loop-holds Inv-loop μ-loop
 loop-holds c = (search needs, nothing _ _)
 
--- src/lib.rt:38:25
 mul-put : tie.Need-mul-put Inv-loop μ-loop
 mul-put c = search needs
 
--- src/lib.rt:38:25
 shared-slice-element-put : tie.Need-shared-slice-element-put Inv-loop μ-loop
 shared-slice-element-put c = search needs
 
--- src/lib.rt:38:9
 put-requires : tie.Need-put-requires Inv-loop μ-loop
 put-requires c κs =
     let l = c .before .before .before in
     let rows = l .before .before .args .rows .now in
     omega (arith, stored-length (l .loop .inv .1), l .loop .inv .1 .end, rows-length (take (l .loop .k) rows), length-take (l .loop .k) rows)
 
--- src/lib.rt:39:13
 add-k : tie.Need-add-k Inv-loop μ-loop
 add-k c = search needs
 
--- src/lib.rt:37:5
 loop-less : tie.Need-loop-less Inv-loop μ-loop
 loop-less c = search needs
 
--- src/lib.rt:37:5
 loop-again : tie.Need-loop-again Inv-loop μ-loop
 loop-again c =
     let p = c .before .before in
@@ -54,11 +44,9 @@ loop-again c =
     let rows = l .before .before .args .rows .now in
     (search needs, stored-same (row-more rows (l .loop .k) (p .before .before .before .loop-test .taken)) (l .loop .inv .1 then p .put .ensures))
 
--- src/lib.rt:31:1
 same-length : tie.Need-same-length Inv-loop μ-loop
 same-length c = stored-length (c .before .loop .inv .1)
 
--- src/lib.rt:31:1
 returns : tie.Need-returns Inv-loop μ-loop
 returns c =
     let rows = c .before .before .before .args .rows .now in
