@@ -1,5 +1,5 @@
--- How many records the longest sequences take: those that reset the protocol layer, each with all that can stand beside it
--- in one list. A list has room for 128 (document 01, "Volatile registers").
+-- How many records the sequences take that reset the protocol layer, the longest helper, each with all that can stand
+-- beside it in one list. A list has room for 128 (document 01, "Volatile registers").
 -- Assumes nothing.
 use Prim.Native.Nat.{ℕ}
 use mathlib.Core.Path.{_≡_, refl}

@@ -71,7 +71,7 @@ lmpTx place word = write n.link-lmp-tx-data place (n.all ≔ word) []
 abbrev pub txPortCapOps : List Op
 txPortCapOps = lmpTx 0 (lmpWord 4 1) ∷ lmpTx 1 (4 + 2 * 2 ^ 16) ∷ lmpTx 2 0 ∷ []
 
--- the controller may go on: its own capabilities count as sent
+-- set once a port configuration was answered, or the answer to one came
 abbrev pub txCapVldOps : List Op
 txCapVldOps = modify n.link-lmp-port-cap 0 (n.link-lmp-tx-cap-vld ≔ 1) [] ∷ []
 
