@@ -13,7 +13,7 @@ use lib.ListN.{length, getD, take, set, List·getD-eq-default}
 use lib.Seq.{take-suc}
 use mir.Facts.{and-yes}
 use borrow.Author.Tests.{eq-eqb, ne-eqb}
-use Rattle.ops.specs.Stores.{Stored, _then_, one, stored-same}
+use Rattle.ops.specs.Stores.{Stored, next, stored-same}
 use Rattle.names.specs.Names.{bytes, nameOf}
 
 abbrev pub blank : ℕ
@@ -45,9 +45,7 @@ row-ends (b ∷ row) (suc n) before end =
 -- one byte of a row more
 pub byte-more : {l l′ : List ℕ} {i : ℕ} (row : List ℕ) (n : ℕ) → n < length row →
     Stored l i (take n row) (i + n) l′ → Stored l i (take (n + 1) row) (i + (n + 1)) (set l′ (i + n) (getD row n 0))
-byte-more {i = i} row n h p =
-    let e : i + (n + 1) ≡ i + n + 1 = omega arith in
-    rw (e, add-one n, take-suc row n 0 h) (p then one _ _ _)
+byte-more row n h run = rw (add-one n, take-suc row n 0 h, ← add-one n) (next n (getD row n 0) run)
 
 abbrev same : List ℕ → List ℕ → Bool
 same [] [] = true

@@ -2,4 +2,4 @@ pub mod Numbers
 pub mod Ops
 pub mod Stores
 pub mod Wrote
-pub mod Loops
+pub mod Sequence

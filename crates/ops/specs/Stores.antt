@@ -1,10 +1,9 @@
 -- A run of numbers stored in a list, one after the other.
 -- Assumes nothing.
-use Prim.Native.Nat.{ℕ, suc, zero, _+_, _<_}
-use mathlib.Core.Path.{_≡_, refl, ap, _∙_, sym, subst}
+use Prim.Native.Nat.{ℕ, suc, _+_}
+use mathlib.Core.Path.{_≡_, refl, ap, _∙_, subst}
 use mathlib.Core.List.{List, [], _∷_, _++_}
 use native.Mathlib.Omega.{arith}
-use native.Mathlib.Nat.{add-zero, add-suc, suc-add}
 use lib.ListN.{length, set, length-append}
 use lib.Seq.{sets, length-sets}
 
@@ -13,26 +12,34 @@ pub record Stored (l : List ℕ) (at : ℕ) (vs : List ℕ) (r : ℕ) (l′ : Li
   pub end : r ≡ at + length vs
   pub list : l′ ≡ sets l at vs
 
--- two runs, the second where the first ends, are one
-sets-sets : (l : List ℕ) (i : ℕ) (a b : List ℕ) → sets (sets l i a) (i + length a) b ≡ sets l i (a ++ b)
-sets-sets l i [] b = ap (λ (k : ℕ). sets l k b) (add-zero i)
-sets-sets l i (x ∷ a) b =
-    ap (λ (k : ℕ). sets (sets (set l i x) (suc i) a) k b) (add-suc i (length a) ∙ sym (suc-add i (length a)))
-    ∙ sets-sets (set l i x) (suc i) a b
+-- whoever goes on at j, where the first run ends, makes one longer run of both
+resume : (a b l : List ℕ) (i j : ℕ) → j ≡ i + length a → sets (sets l i a) j b ≡ sets l i (a ++ b)
+resume [] b l i j e =
+    let start : j ≡ i = omega arith in
+    rw start
+resume (x ∷ a) b l i j e = resume a b (set l i x) (suc i) j (omega arith)
 
 infixl 60 _then_
 pub _then_ : {l l₁ l₂ : List ℕ} {i j k : ℕ} {a b : List ℕ} → Stored l i a j l₁ → Stored l₁ j b k l₂ → Stored l i (a ++ b) k l₂
-_then_ {l} {l₁} {l₂} {i} {j} {k} {a} {b} p q =
+_then_ {l} {i = i} {j = j} {a = a} {b = b} first second =
     record {
-      end = omega (arith, length-append a b, p .end, q .end);
-      list = q .list ∙ rw (p .list, p .end) (sets-sets l i a b);
+      end = omega (arith, first .end, second .end, length-append a b);
+      list = second .list ∙ rw (first .list) (resume a b l i j (first .end));
     }
 
 pub nothing : (l : List ℕ) (i : ℕ) → Stored l i [] i l
 nothing l i = record { end = omega arith; list = refl }
 
-pub one : (l : List ℕ) (i x : ℕ) → Stored l i (x ∷ []) (i + 1) (set l i x)
-one l i x = record { end = refl; list = refl }
+-- a run of one number
+pub one : (l : List ℕ) (at x : ℕ) → Stored l at (x ∷ []) (at + 1) (set l at x)
+one l at x = record { list = refl; end = refl }
+
+-- the number behind a run of k
+pub next : {l l′ : List ℕ} {at : ℕ} {a : List ℕ} (k x : ℕ) → Stored l at a (at + k) l′
+    → Stored l at (a ++ (x ∷ [])) (at + (k + 1)) (set l′ (at + k) x)
+next {l′ = l′} {at = at} k x run =
+    let e : at + (k + 1) ≡ at + k + 1 = omega arith in
+    rw e (run then one l′ (at + k) x)
 
 pub stored-length : {l l′ : List ℕ} {i k : ℕ} {a : List ℕ} → Stored l i a k l′ → length l′ ≡ length l
 stored-length {l} {l′} {i} {k} {a} p = ap length (p .list) ∙ length-sets l i a

@@ -1,8 +1,8 @@
-// The numbers of kinds, registers, fields and enumerated values in the records of register operations. Names are the
-// Rust's. The numbers are this port's own: bit layouts lie in another crate.
+// What the numbers in a record stand for: kinds, registers, fields and enumerated values. Names are the Rust's. The numbers
+// are this port's own, since how the bits lie is another crate's matter.
 
-// Kinds of a record: opens a write, adds a further field to a write or a modify, opens a modify, modifies a field only
-// if it differs, waits, clears the bits of the value.
+// A write or a modify begins with a record of kind 1 or 3, and each field after its first is a record of kind 2. Kind 4
+// changes a field that has another value, 5 is a wait, 6 clears bits.
 pub const WRITE: u32 = 1;
 
 pub const AND: u32 = 2;

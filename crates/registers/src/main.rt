@@ -32,21 +32,21 @@ fn introduction() {
 }
 
 fn kinds() {
-    print(b"Kind ");
-    kind(numbers::WRITE, b" opens a write, ");
+    print(b"A write begins with a record of kind ");
+    kind(numbers::WRITE, b", a modify with one of kind ");
     kind(
-        numbers::AND,
-        b" adds a further field to a write or a modify, ",
+        numbers::MODIFY,
+        b";\neach field after the first is a record of kind ",
     );
-    kind(numbers::MODIFY, b" opens a modify,\n");
+    kind(numbers::AND, b". Kind ");
     kind(
         numbers::MODIFY_IF_DIFFERS,
-        b" modifies a field only if it differs, ",
+        b" changes a field that has another value,\n",
     );
-    kind(numbers::WAIT, b" waits `value` cycles, and ");
+    kind(numbers::WAIT, b" is a wait of so many cycles, and ");
     kind(
         numbers::CLEAR_BITS,
-        b" clears the bits of `value` in a field.\n",
+        b" clears those bits of a field that the value has.\n",
     );
 }
 

@@ -6,10 +6,10 @@ use mathlib.Core.Path.{_≡_, refl}
 use mathlib.Core.Bool.{Bool, true, false}
 use mathlib.Core.List.{List, _++_}
 use lib.ListN.{length}
-use Rattle.ops.specs.Loops.{turns}
+use Rattle.ops.specs.Sequence.{upTo}
 use Rattle.ops.specs.Numbers as n
 use Rattle.ops.specs.Ops.{Op, flat, records}
-use Rattle.regs.specs.Device.{protocolResetOps, clearsOps}
+use Rattle.regs.specs.Device.{protocolResetOps}
 use Rattle.regs_link.specs.Link.{
   initOps,
   linkPowerAllowOps,
@@ -49,5 +49,5 @@ pub longest : (revision ep0 : ℕ) (allow : Bool)
     → (length (flat (powerOnOps revision ep0)) ≡ records 127)
     × (length (flat (hotResetOps allow ep0)) ≡ records 94)
     × (length (flat (warmResetOps ep0)) ≡ records 86)
-unfolding clearsOps turns
+unfolding upTo
 longest revision ep0 allow = (refl, refl, refl)

@@ -2,15 +2,16 @@
 ghost use Prim.Native.Nat.{_+_, _≤_};
 ghost use lib.ListN.{length};
 ghost use Rattle.ops.specs.Ops.{records};
+ghost use Rattle.ops.specs.Sequence.{upTo};
 ghost use Rattle.ops.specs.Wrote.{Wrote};
-ghost use Rattle.regs.specs.Device.{shutdownOps, protocolOps, clearsOps, ep0MemoryOps, protocolResetOps};
+ghost use Rattle.regs.specs.Device.{shutdownOps, protocolOps, clearBoth, ep0MemoryOps, protocolResetOps};
 use ops::numbers::*;
 use regs_control::ep0_rx_ready;
 use regs_control::ep0_tx_clear;
 use regs_control::set_address;
 use regs_endpoint::clear;
 
-// Takes the device off the bus.
+// Leaves the bus: the protocol and the link layer are reset, and the link is held down meanwhile.
 pub fn shutdown(ops: &mut [u32], at: usize) -> usize
     requires { ⌜ at + records 8 ≤ length (now ops) ⌝ }
     ensures { λ r. ⌜ Wrote (now (ops .entry)) at shutdownOps r (now (ops .exit)) ⌝ }
@@ -57,7 +58,7 @@ fn reset_protocol_layer(ops: &mut [u32], at: usize) -> usize
 // Both directions of the endpoints 1 to 7, IN first.
 fn clear_all(ops: &mut [u32], at: usize) -> usize
     requires { ⌜ at + records 56 ≤ length (now ops) ⌝ }
-    ensures { λ r. ⌜ Wrote (now (ops .entry)) at (clearsOps 7) r (now (ops .exit)) ⌝ }
+    ensures { λ r. ⌜ Wrote (now (ops .entry)) at (upTo clearBoth 7) r (now (ops .exit)) ⌝ }
 {
     let mut a = at;
     let mut k: u32 = 0;
@@ -83,7 +84,7 @@ fn set_ep0_memory(ops: &mut [u32], at: usize, ep0: u32) -> usize
     ops::append(ops, at, &rows)
 }
 
-// Resets the protocol layer and every endpoint, with EP0 using the 512 bytes at `ep0` and ready for a SETUP.
+// Everything above the link starts over: flags, endpoints, address. EP0 has its memory at `ep0` and waits for a SETUP.
 pub fn protocol_reset(ops: &mut [u32], at: usize, ep0: u32) -> usize
     requires { ⌜ at + records 81 ≤ length (now ops) ⌝ }
     ensures { λ r. ⌜ Wrote (now (ops .entry)) at (protocolResetOps ep0) r (now (ops .exit)) ⌝ }

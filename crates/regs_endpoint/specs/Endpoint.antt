@@ -28,7 +28,7 @@ bankOf false =
       «ep_en» = n.ep-rx-en;
     }
 
--- drops the chain, the halt state, the sequence number and `ERDY_NUMP`
+-- a clean endpoint: no chain, not halted, sequence and window at their start
 abbrev pub clearOps : ℕ → Bool → List Op
 clearOps e incoming =
     write (bankOf incoming .cr) e (n.clr ≔ 1) (n.chain-clr ≔ 1 ∷ [])
@@ -53,7 +53,7 @@ abortOps e incoming =
     ∷ write (bankOf incoming .st) e (n.erdy-req ≔ 1) []
     ∷ []
 
--- the host may have one packet fewer than `nump` waiting for its ACK
+-- the window of an OUT endpoint, written only where it changes
 abbrev pub windowOps : ℕ → ℕ → List Op
 windowOps e nump = modifyIfDiffers n.rx-cr e (n.erdy-nump ≔ nump) ∷ []
 

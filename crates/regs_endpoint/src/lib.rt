@@ -41,8 +41,8 @@ fn bank_of(incoming: bool) -> Bank
     }
 }
 
-// Drops the endpoint's chain, halt state, sequence number and `ERDY_NUMP`. The controller ignores a write of `cr` right
-// after this one.
+// A clean endpoint: no chain, not halted, sequence and window at their start. A further write of `cr` directly behind it
+// has no effect.
 pub fn clear(ops: &mut [u32], at: usize, index: u32, incoming: bool) -> usize
     requires { ⌜ at + records 4 ≤ length (now ops) ⌝ }
     ensures { λ r. ⌜ Wrote (now (ops .entry)) at (clearOps index incoming) r (now (ops .exit)) ⌝ }
@@ -81,7 +81,7 @@ pub fn configure(ops: &mut [u32], at: usize, index: u32, incoming: bool, iso: bo
     clear(ops, a, index, incoming)
 }
 
-// Stops the endpoint's chain; the sequence number stays in step with the host.
+// Ends the chain in hand and leaves the sequence number alone, so that host and endpoint still agree on it.
 pub fn abort(ops: &mut [u32], at: usize, index: u32, incoming: bool) -> usize
     requires { ⌜ at + records 3 ≤ length (now ops) ⌝ }
     ensures { λ r. ⌜ Wrote (now (ops .entry)) at (abortOps index incoming) r (now (ops .exit)) ⌝ }
@@ -90,12 +90,12 @@ pub fn abort(ops: &mut [u32], at: usize, index: u32, incoming: bool) -> usize
     let rows = [
         [MODIFY, ep.cr, index, CHAIN_CLR, 1],
         [WRITE, ep.chain_st, index, CHAIN_IF, 1],
-        [WRITE, ep.st, index, ERDY_REQ, 1], // for a host left in flow control, which gets none for the next chain
+        [WRITE, ep.st, index, ERDY_REQ, 1], // a host that waits asks again
     ];
     ops::append(ops, at, &rows)
 }
 
-// `ERDY_NUMP` of an OUT endpoint: the host may have `nump` - 1 packets waiting for their ACK.
+// The window of an OUT endpoint; the host keeps one packet fewer unacknowledged.
 pub fn set_out_window(ops: &mut [u32], at: usize, index: u32, nump: u32) -> usize
     requires { ⌜ at + records 1 ≤ length (now ops) ⌝ }
     ensures { λ r. ⌜ Wrote (now (ops .entry)) at (windowOps index nump) r (now (ops .exit)) ⌝ }
@@ -112,12 +112,12 @@ pub fn halt(ops: &mut [u32], at: usize, index: u32, incoming: bool) -> usize
     let ep = bank_of(incoming);
     let rows = [
         [MODIFY, ep.cr, index, HALT, 1],
-        [WRITE, ep.st, index, ERDY_REQ, 1], // has a host in flow control look again, and see the STALL
+        [WRITE, ep.st, index, ERDY_REQ, 1], // has a waiting host ask again, and find the STALL
     ];
     ops::append(ops, at, &rows)
 }
 
-// The endpoint's bit in `uep_tx_en` or `uep_rx_en`.
+// Each direction has one register with a bit for each endpoint.
 pub fn set_enabled(ops: &mut [u32], at: usize, index: u32, incoming: bool, enabled: bool) -> usize
     requires { ⌜ at + records 1 ≤ length (now ops) ⌝ }
     ensures { λ r. ⌜ Wrote (now (ops .entry)) at (enableOps index incoming enabled) r (now (ops .exit)) ⌝ }

@@ -54,7 +54,7 @@ linkUpOps revision =
 abbrev pub initOps : ℕ → List Op
 initOps revision = linkUpOps revision ++ phyTuningOps
 
--- whether LGO_U1 and LGO_U2 are accepted where the host forces link power management
+-- whether the host's requests to enter U1 and U2 (LGO_U1, LGO_U2) are accepted
 abbrev pub linkPowerAllowOps : Bool → List Op
 linkPowerAllowOps allow = modify n.link-cfg 0 (n.link-u1-allow ≔ bit allow) (n.link-u2-allow ≔ bit allow ∷ []) ∷ []
 

@@ -41,8 +41,8 @@ fn phy_unnamed(ops: &mut [u32], at: usize) -> usize
     ops::append(ops, at, &rows)
 }
 
-// To be run once `link_phy_reset` is released: values written before it don't survive a cold boot, and the link then drops
-// into Recovery several times a second.
+// Has to follow the release of `link_phy_reset`. Earlier writes are lost on a cold boot, and the link keeps falling back to
+// Recovery.
 pub fn phy_tuning(ops: &mut [u32], at: usize) -> usize
     requires { ⌜ at + records 21 ≤ length (now ops) ⌝ }
     ensures { λ r. ⌜ Wrote (now (ops .entry)) at phyTuningOps r (now (ops .exit)) ⌝ }
@@ -93,7 +93,7 @@ fn link_up(ops: &mut [u32], at: usize, revision: u32) -> usize
     ops::append(ops, at, &rows)
 }
 
-// Brings the link layer up as a device's. The de-emphasis is the 3.5 dB of USB 3.0.
+// The link layer of a device from reset on, then the PHY.
 pub fn init(ops: &mut [u32], at: usize, revision: u32) -> usize
     requires { ⌜ at + records 44 ≤ length (now ops) ⌝ }
     ensures { λ r. ⌜ Wrote (now (ops .entry)) at (initOps revision) r (now (ops .exit)) ⌝ }
@@ -102,7 +102,7 @@ pub fn init(ops: &mut [u32], at: usize, revision: u32) -> usize
     phy_tuning(ops, a)
 }
 
-// Whether LGO_U1 and LGO_U2 are accepted where the host forces link power management.
+// Whether the host's requests to enter U1 and U2 (LGO_U1, LGO_U2) are accepted.
 pub fn link_power_allow(ops: &mut [u32], at: usize, allow: bool) -> usize
     requires { ⌜ at + records 2 ≤ length (now ops) ⌝ }
     ensures { λ r. ⌜ Wrote (now (ops .entry)) at (linkPowerAllowOps allow) r (now (ops .exit)) ⌝ }

@@ -1,23 +1,10 @@
--- Five stores in a row are one record. Assumes nothing.
+-- Each number of the row is stored behind the one before. Assumes nothing.
 use borrow.Author.Needs.{needs}
+use Rattle.ops.specs.Stores.{one, next}
 use native.Mathlib.Omega.{arith}
 use lib.ListN.{length-set}
-use lib.ListN.{set}
-use lib.Seq.{sets}
-use mathlib.Core.Path.{_≡_}
-use mathlib.Core.List.{List, [], _∷_}
-use Prim.Native.Nat.{ℕ, suc, _+_}
 use Rattle.ops.proofs.put.Statement.{statement}
 use Rattle.ops.proofs.put.Tie as tie
-
--- five stores in a row are a run
-record-sets : (l : List ℕ) (i a b c d e : ℕ) → set (set (set (set (set l i a) (i + 1) b) (i + 2) c) (i + 3) d) (i + 4) e ≡ sets l i (a ∷ b ∷ c ∷ d ∷ e ∷ [])
-record-sets l i a b c d e =
-    let h₁ : i + 1 ≡ suc i = omega arith in
-    let h₂ : i + 2 ≡ suc (suc i) = omega arith in
-    let h₃ : i + 3 ≡ suc (suc (suc i)) = omega arith in
-    let h₄ : i + 4 ≡ suc (suc (suc (suc i))) = omega arith in
-    rw (h₁, h₂, h₃, h₄)
 
 element-copy-out-ops : tie.Need-element-copy-out-ops
 element-copy-out-ops c = search needs
@@ -83,7 +70,7 @@ same-length : tie.Need-same-length
 same-length c = search needs
 
 returns : tie.Need-returns
-returns c = record { end = search needs; list = rw record-sets }
+returns c = next 4 _ (next 3 _ (next 2 _ (next 1 _ (one _ _ _))))
 
 pub put-spec : {M : Type 1} → statement M
 put-spec =

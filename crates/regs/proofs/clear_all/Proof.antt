@@ -4,18 +4,19 @@ use native.Mathlib.Omega.{arith}
 use mathlib.Core.Path.{_≡_}
 use Prim.Native.Nat.{_≤_, _-_}
 use Rattle.ops.specs.Wrote.{Wrote, _▹_, wrote-length}
-use Rattle.regs.specs.Device.{clearsOps, clears-none, clears-more, clears-end}
+use Rattle.ops.specs.Sequence.{upTo, upTo-start, upTo-next}
+use Rattle.regs.specs.Device.{clearBoth, clear-both-length}
 use Rattle.regs.proofs.clear_all.Statement.{statement}
 use Rattle.regs.proofs.clear_all.Tie as tie
 
 abbrev Inv-loop : tie.InvT-loop
-Inv-loop ops₀ at a₀ k₀ ops a k = (k ≤ 7) × Wrote ops₀ at (clearsOps k) a ops
+Inv-loop ops₀ at a₀ k₀ ops a k = (k ≤ 7) × Wrote ops₀ at (upTo clearBoth k) a ops
 
 abbrev μ-loop : tie.MeasureT-loop
 μ-loop ops₀ at a₀ k₀ ops a k = 7 - k
 
 loop-holds : tie.Need-loop-holds Inv-loop μ-loop
-loop-holds c = (search needs, clears-none _ _)
+loop-holds c = (search needs, upTo-start clearBoth _ _)
 
 add-index : tie.Need-add-index Inv-loop μ-loop
 add-index c = search needs
@@ -23,12 +24,12 @@ add-index c = search needs
 clear-requires : tie.Need-clear-requires Inv-loop μ-loop
 clear-requires c κs =
     let l = c .before .before .loop in
-    omega (arith, wrote-length (l .inv .1), clears-end (l .k) (l .inv .1))
+    omega (arith, wrote-length (l .inv .1), l .inv .1 .end, clear-both-length (l .k))
 
 clear-requires-2 : tie.Need-clear-requires-2 Inv-loop μ-loop
 clear-requires-2 c κs =
     let l = c .before .before .before .before .before .before .loop in
-    omega (arith, wrote-length (l .inv .1), clears-end (l .k) (l .inv .1))
+    omega (arith, wrote-length (l .inv .1), l .inv .1 .end, clear-both-length (l .k))
 
 loop-less : tie.Need-loop-less Inv-loop μ-loop
 loop-less c = search needs
@@ -38,7 +39,7 @@ loop-again c =
     let out = c .before .before in
     let in-first = out .before .before .before .before in
     let l = in-first .before .before .before .loop in
-    (search needs, clears-more (l .k) (l .inv .1) (in-first .clear .ensures ▹ out .clear2 .ensures))
+    (search needs, upTo-next clearBoth (l .k) (l .inv .1) (in-first .clear .ensures ▹ out .clear2 .ensures))
 
 same-length : tie.Need-same-length Inv-loop μ-loop
 same-length c = wrote-length (c .before .loop .inv .1)

@@ -2,7 +2,7 @@
 use borrow.Author.Needs.{needs}
 use native.Mathlib.Omega.{arith}
 use Rattle.ops.specs.Wrote.{_▹_}
-use Rattle.regs.specs.Device.{clears-seven}
+use Rattle.regs.specs.Device.{clear-both-length}
 use Rattle.regs.proofs.protocol_reset.Statement.{statement}
 use Rattle.regs.proofs.protocol_reset.Tie as tie
 
@@ -13,16 +13,16 @@ clear-all-requires : tie.Need-clear-all-requires
 clear-all-requires c κs = search needs
 
 set-ep0-memory-requires : tie.Need-set-ep0-memory-requires
-set-ep0-memory-requires c κs = omega (arith, clears-seven)
+set-ep0-memory-requires c κs = omega (arith, clear-both-length 7)
 
 ep0-tx-clear-requires : tie.Need-ep0-tx-clear-requires
-ep0-tx-clear-requires c κs = omega (arith, clears-seven)
+ep0-tx-clear-requires c κs = omega (arith, clear-both-length 7)
 
 ep0-rx-ready-requires : tie.Need-ep0-rx-ready-requires
-ep0-rx-ready-requires c κs = omega (arith, clears-seven)
+ep0-rx-ready-requires c κs = omega (arith, clear-both-length 7)
 
 set-address-requires : tie.Need-set-address-requires
-set-address-requires c κs = omega (arith, clears-seven)
+set-address-requires c κs = omega (arith, clear-both-length 7)
 
 same-length : tie.Need-same-length
 same-length c = search needs
