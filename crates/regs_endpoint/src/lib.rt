@@ -95,7 +95,7 @@ pub fn abort(ops: &mut [u32], at: usize, index: u32, incoming: bool) -> usize
     ops::append(ops, at, &rows)
 }
 
-// The window of an OUT endpoint; the host keeps one packet fewer unacknowledged.
+// The window of an OUT endpoint: one more than the packets that may be sent ahead of their ACK.
 pub fn set_out_window(ops: &mut [u32], at: usize, index: u32, nump: u32) -> usize
     requires { ⌜ at + records 1 ≤ length (now ops) ⌝ }
     ensures { λ r. ⌜ Wrote (now (ops .entry)) at (windowOps index nump) r (now (ops .exit)) ⌝ }

@@ -41,8 +41,8 @@ fn phy_unnamed(ops: &mut [u32], at: usize) -> usize
     ops::append(ops, at, &rows)
 }
 
-// Has to follow the release of `link_phy_reset`. Earlier writes are lost on a cold boot, and the link keeps falling back to
-// Recovery.
+// Has to follow the release of `link_phy_reset`. After a cold boot earlier writes are lost, and Recovery is entered
+// again and again.
 pub fn phy_tuning(ops: &mut [u32], at: usize) -> usize
     requires { ⌜ at + records 21 ≤ length (now ops) ⌝ }
     ensures { λ r. ⌜ Wrote (now (ops .entry)) at phyTuningOps r (now (ops .exit)) ⌝ }
