@@ -1,0 +1,107 @@
+-- Refusal 26, clause by clause in document 01's words. A clause is true where its fault is absent.
+-- Assumes nothing.
+use Prim.Native.Nat.{ℕ, _+_, _%_}
+use mathlib.Core.Bool.{Bool, true, false, _&&_, _||_, not}
+use mathlib.Core.List.{List, [], _∷_, _++_, map}
+use lib.Dec.{eqb, leb, ltb}
+use Rattle.state.specs.declared.EndpointConfig.{EndpointConfig}
+use Rattle.state.specs.declared.Allocation.{Allocation}
+use Rattle.state.specs.declared.Slot.{Slot}
+use Rattle.state.specs.declared.State.{State}
+use Rattle.state.specs.declared.Stage.{Stage}
+use Rattle.state.specs.declared.Stage.the-variants as stage
+use Rattle.state.specs.declared.Events.{Events}
+use Rattle.state.specs.declared.Driver.{Driver}
+use Rattle.state.specs.Slots.{idleb, busyb, slotNumber}
+use Rattle.state.specs.Fresh.{slotAt, allocationAt}
+use Rattle.state.specs.Each.{every}
+
+-- RAM is 0x200A0000 up to, not including, 0x20180000
+abbrev pub inRam : ℕ → ℕ → Bool
+inRam address length = leb 0x200A0000 address && leb (address + length) 0x20180000
+
+abbrev pub aligned : ℕ → Bool
+aligned address = eqb (address % 4) 0
+
+-- a multiple of m, which isn't 0
+abbrev pub multiple : ℕ → ℕ → Bool
+multiple n m = ltb 0 m && eqb (n % m) 0
+
+-- slots 0 and 1 are endpoint 0's, the others are data slots; those of OUT have even numbers
+abbrev pub ep0 : ℕ → Bool
+ep0 i = ltb i 2
+
+abbrev pub isIn : ℕ → Bool
+isIn i = eqb (i % 2) 1
+
+-- a configuration of slot i, where there is one
+abbrev pub configClauses : List (ℕ → Bool → EndpointConfig → Bool)
+configClauses =
+    -- a configuration naming another slot
+    (λ i configured k. not configured || eqb (slotNumber (k .index) (k .incoming)) i)
+    -- M outside 1–1024
+    ∷ (λ i configured k. not configured || (leb 1 (k .«max_packet_size») && leb (k .«max_packet_size») 1024))
+    -- own buffer outside RAM
+    ∷ (λ i configured k. not configured || inRam (k .buffer .address) (k .buffer .size))
+    -- own buffer unaligned
+    ∷ (λ i configured k. not configured || aligned (k .buffer .address))
+    -- own buffer no positive multiple of M long
+    ∷ (λ i configured k. not configured || (ltb 0 (k .buffer .size) && multiple (k .buffer .size) (k .«max_packet_size»)))
+    ∷ []
+
+abbrev pub useClauses : Bool → List (ℕ → Slot → Bool)
+useClauses powered =
+    -- data slot enabled without configuration
+    (λ i x. ep0 i || (not (x .enabled) || x .configured))
+    -- not idle while unpowered
+    ∷ (λ i x. ep0 i || (idleb (x .phase) || powered))
+    -- not idle while not enabled
+    ∷ (λ i x. ep0 i || (idleb (x .phase) || x .enabled))
+    -- not idle while stalled
+    ∷ (λ i x. ep0 i || (idleb (x .phase) || not (x .stalled)))
+    ∷ []
+
+-- a data slot that isn't busy, and one that isn't busy or is of IN
+abbrev pub calm : ℕ → Slot → Bool
+calm i x = ep0 i || not (busyb (x .phase))
+
+abbrev pub calmOut : ℕ → Slot → Bool
+calmOut i x = calm i x || isIn i
+
+abbrev pub transferClauses : List (ℕ → Slot → Bool)
+transferClauses =
+    -- a data slot's progress above its length
+    (λ i x. ep0 i || leb (x .transfer .progress) (x .transfer .length))
+    -- busy transfer that isn't in RAM
+    ∷ (λ i x. calm i x || inRam (x .transfer .address) (x .transfer .length))
+    -- busy transfer that isn't 4-aligned
+    ∷ (λ i x. calm i x || aligned (x .transfer .address))
+    -- busy OUT transfer whose length isn't a positive multiple of M
+    ∷ (λ i x. calmOut i x || (ltb 0 (x .transfer .length) && multiple (x .transfer .length) (x .config .«max_packet_size»)))
+    -- busy OUT transfer at its full length
+    ∷ (λ i x. calmOut i x || not (eqb (x .transfer .progress) (x .transfer .length)))
+    -- busy OUT transfer at no multiple of M
+    ∷ (λ i x. calmOut i x || multiple (x .transfer .progress) (x .config .«max_packet_size»))
+    ∷ []
+
+abbrev pub slotClauses : Bool → List (ℕ → Slot → Bool)
+slotClauses powered = useClauses powered ++ map (λ (c : ℕ → Bool → EndpointConfig → Bool) i (x : Slot). c i (x .configured) (x .config)) configClauses ++ transferClauses
+
+-- SUSPEND with RESUME (2 and 4 of the pending events)
+abbrev pub eventsSound : Events → Bool
+eventsSound e = not (eqb (e .events / 2 % 2) 1 && eqb (e .events / 4 % 2) 1)
+
+abbrev pub nothingAsked : Stage → Bool
+nothingAsked stage.Nothing = true
+nothingAsked stage.LinkFlags = false
+nothingAsked stage.LinkStatus = false
+nothingAsked stage.PortCapability = false
+nothingAsked stage.TermPresStatus = false
+nothingAsked stage.MessageWord = false
+nothingAsked stage.WarmResetStatus = false
+nothingAsked stage.TransferStatus = false
+nothingAsked stage.SetupBytes = false
+nothingAsked stage.Ep0Length = false
+nothingAsked stage.Ep0Sequence = false
+nothingAsked stage.ChainPackets = false
+nothingAsked stage.LastLength = false

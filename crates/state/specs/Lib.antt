@@ -1,0 +1,6 @@
+pub mod Slots
+pub mod Fresh
+pub mod Numbers
+pub mod Awaiting
+pub mod Pending
+pub mod Each
