@@ -5,15 +5,15 @@ use mathlib.Core.Bool.{Bool, true, false, _&&_, _||_, not}
 use mathlib.Core.List.{List, [], _∷_, _++_, map}
 use lib.Dec.{eqb, leb, ltb}
 use Rattle.state.specs.declared.EndpointConfig.{EndpointConfig}
-use Rattle.state.specs.declared.Allocation.{Allocation}
 use Rattle.state.specs.declared.Slot.{Slot}
 use Rattle.state.specs.declared.State.{State}
-use Rattle.state.specs.declared.Stage.{Stage}
-use Rattle.state.specs.declared.Stage.the-variants as stage
+use Rattle.state.specs.declared.Awaited.{Awaited}
 use Rattle.state.specs.declared.Events.{Events}
 use Rattle.state.specs.declared.Driver.{Driver}
 use Rattle.state.specs.Slots.{idleb, busyb, slotNumber}
 use Rattle.state.specs.Fresh.{slotAt, allocationAt}
+use Rattle.state.specs.Awaiting.{awaitingb, chainStageb}
+use Rattle.events.specs.Pending.{eventsSoundb}
 use Rattle.state.specs.Each.{every}
 
 -- RAM is 0x200A0000 up to, not including, 0x20180000
@@ -87,21 +87,50 @@ transferClauses =
 abbrev pub slotClauses : Bool → List (ℕ → Slot → Bool)
 slotClauses powered = useClauses powered ++ map (λ (c : ℕ → Bool → EndpointConfig → Bool) i (x : Slot). c i (x .configured) (x .config)) configClauses ++ transferClauses
 
--- SUSPEND with RESUME (2 and 4 of the pending events)
-abbrev pub eventsSound : Events → Bool
-eventsSound e = not (eqb (e .events / 2 % 2) 1 && eqb (e .events / 4 % 2) 1)
+abbrev pub awaitedClauses : Bool → Awaited → List Bool
+awaitedClauses powered a =
+    -- a reading awaited while unpowered
+    (not (awaitingb (a .stage)) || powered)
+    -- a chain reading for an endpoint outside 1–7
+    ∷ (not (chainStageb (a .stage)) || (leb 1 (a .endpoint) && leb (a .endpoint) 7))
+    ∷ []
 
-abbrev pub nothingAsked : Stage → Bool
-nothingAsked stage.Nothing = true
-nothingAsked stage.LinkFlags = false
-nothingAsked stage.LinkStatus = false
-nothingAsked stage.PortCapability = false
-nothingAsked stage.TermPresStatus = false
-nothingAsked stage.MessageWord = false
-nothingAsked stage.WarmResetStatus = false
-nothingAsked stage.TransferStatus = false
-nothingAsked stage.SetupBytes = false
-nothingAsked stage.Ep0Length = false
-nothingAsked stage.Ep0Sequence = false
-nothingAsked stage.ChainPackets = false
-nothingAsked stage.LastLength = false
+abbrev pub stateClauses : State → Events → List Bool
+stateClauses s e =
+    -- EP0 memory outside RAM (0 is sound until the first start)
+    (eqb (s .«ep0_address») 0 || inRam (s .«ep0_address») 512)
+    -- SUSPEND with RESUME
+    ∷ eventsSoundb (e .events)
+    -- address above 127
+    ∷ (not (s .«has_address») || leb (s .address) 127)
+    -- sequence above 31
+    ∷ leb (s .«tx_seq») 31
+    ∷ awaitedClauses (s .powered) (s .awaited)
+
+-- a clause of a slot, for all sixteen
+abbrev pub ofSlots : State → (ℕ → Slot → Bool) → Bool
+ofSlots s c = every (λ i. c i (slotAt s i)) 16
+
+abbrev pub clauses : State → Events → List Bool
+clauses s e = map (ofSlots s) (slotClauses (s .powered)) ++ stateClauses s e
+
+abbrev pub memoryClauses : ℕ → ℕ → ℕ → List Bool
+memoryClauses memory capacity used =
+    -- memory that breaks 1
+    inRam memory capacity
+    -- or 2
+    ∷ leb 512 capacity
+    -- or isn't 4-aligned
+    ∷ aligned memory
+    -- under 512 bytes in use
+    ∷ leb 512 used
+    -- or more than its capacity
+    ∷ leb used capacity
+    ∷ []
+
+abbrev pub ofAllocations : Driver → (ℕ → Bool → EndpointConfig → Bool) → Bool
+ofAllocations d c = every (λ i. c i (allocationAt d i .configured) (allocationAt d i .config)) 16
+
+-- a driver's own clauses, and those of its configurations
+abbrev pub driverClauses : Driver → List Bool
+driverClauses d = map (ofAllocations d) configClauses ++ memoryClauses (d .memory) (d .capacity) (d .used)

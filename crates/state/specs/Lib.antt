@@ -2,5 +2,4 @@ pub mod Slots
 pub mod Fresh
 pub mod Numbers
 pub mod Awaiting
-pub mod Pending
 pub mod Each

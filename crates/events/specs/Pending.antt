@@ -1,7 +1,7 @@
 -- The pending events.
 -- Assumes nothing.
 use Prim.Native.Nat.{ℕ, _/_, _%_}
-use mathlib.Core.Bool.{Bool}
+use mathlib.Core.Bool.{Bool, _&&_, not}
 use lib.Dec.{eqb}
 
 -- the bits of the four events
@@ -20,3 +20,7 @@ power = 8
 -- whether the event with bit `flag` is among the pending ones
 abbrev pub pendingb : ℕ → ℕ → Bool
 pendingb events flag = eqb (events / flag % 2) 1
+
+-- refusal 26: SUSPEND with RESUME
+abbrev pub eventsSoundb : ℕ → Bool
+eventsSoundb events = not (pendingb events suspend && pendingb events resume)

@@ -1,0 +1,181 @@
+// Whether a state is sound (refusal 26). Every call asks it first.
+ghost use mathlib.Core.Path.{_≡_};
+ghost use Rattle.sound.specs.Clauses.{inRam, aligned, multiple};
+ghost use Rattle.sound.specs.Sound.{soundb, driverSoundb, configb, useb, transferb, outb, busyClausesb, slotb, awaitedb, ownb, memoryb, slotsb, allocationsb};
+use state::{Awaited, Driver, EndpointConfig, Events, Slot, State};
+
+// RAM is 0x200A0000 up to, not including, 0x20180000. The sum is taken in 64 bits, so that it can't wrap.
+pub fn in_ram(address: u32, length: u32) -> bool
+    ensures { λ r. ⌜ r ≡ inRam address length ⌝ }
+{
+    let end = (address as u64) + (length as u64);
+    (0x200A0000 <= address) & (end <= 0x20180000)
+}
+
+pub fn is_aligned(address: u32) -> bool
+    ensures { λ r. ⌜ r ≡ aligned address ⌝ }
+{
+    address % 4 == 0
+}
+
+// A multiple of m, which isn't 0.
+pub fn is_multiple(n: u32, m: u32) -> bool
+    ensures { λ r. ⌜ r ≡ multiple n m ⌝ }
+{
+    if 0 < m {
+        return n % m == 0;
+    }
+    false
+}
+
+// A configuration of slot i, where there is one.
+fn config_sound(i: usize, configured: bool, config: EndpointConfig) -> bool
+    ensures { λ r. ⌜ r ≡ configb i configured config ⌝ }
+{
+    if configured {
+        let number = state::slot_number(config.index, config.incoming);
+        let m = config.max_packet_size as u32;
+        let address = config.buffer.address;
+        let size = config.buffer.size;
+        let inside = in_ram(address, size);
+        let even = is_aligned(address);
+        let whole = is_multiple(size, m);
+        return (number == i) & (((1 <= m) & (m <= 1024)) & (inside & (even & ((0 < size) & whole))));
+    }
+    true
+}
+
+// How a data slot is used: only an enabled one that isn't stalled has a transfer, and only while powered.
+fn use_sound(powered: bool, i: usize, x: Slot) -> bool
+    ensures { λ r. ⌜ r ≡ useb powered i x ⌝ }
+{
+    if i < 2 {
+        return true;
+    }
+    let phase = x.phase;
+    let idle = state::is_idle(phase);
+    (!x.enabled | x.configured) & ((idle | powered) & ((idle | x.enabled) & (idle | !x.stalled)))
+}
+
+// A busy OUT transfer ends at whole packets and has some to come.
+fn out_sound(progress: u32, length: u32, m: u32) -> bool
+    ensures { λ r. ⌜ r ≡ outb progress length m ⌝ }
+{
+    let room = is_multiple(length, m);
+    let received = is_multiple(progress, m);
+    ((0 < length) & room) & (!(progress == length) & received)
+}
+
+fn busy_sound(i: usize, x: Slot) -> bool
+    ensures { λ r. ⌜ r ≡ busyClausesb i x ⌝ }
+{
+    let t = x.transfer;
+    let inside = in_ram(t.address, t.length);
+    let even = is_aligned(t.address);
+    if i % 2 == 1 {
+        return inside & even;
+    }
+    let out = out_sound(t.progress, t.length, x.config.max_packet_size as u32);
+    inside & (even & out)
+}
+
+// The transfer of a data slot.
+fn transfer_sound(i: usize, x: Slot) -> bool
+    ensures { λ r. ⌜ r ≡ transferb i x ⌝ }
+{
+    if i < 2 {
+        return true;
+    }
+    let within = x.transfer.progress <= x.transfer.length;
+    let phase = x.phase;
+    let busy = state::is_busy(phase);
+    if busy {
+        return within & busy_sound(i, x);
+    }
+    within
+}
+
+fn slot_sound(powered: bool, i: usize, x: Slot) -> bool
+    ensures { λ r. ⌜ r ≡ slotb powered i x ⌝ }
+{
+    let config = x.config;
+    let used = use_sound(powered, i, x);
+    let configured = config_sound(i, x.configured, config);
+    let transfer = transfer_sound(i, x);
+    (used & configured) & transfer
+}
+
+fn slots_sound(state: State) -> bool
+    ensures { λ r. ⌜ r ≡ slotsb state 16 ⌝ }
+{
+    let mut ok = true;
+    let mut i: usize = 0;
+    while i < 16 {
+        let x = state.endpoints[i];
+        let good = slot_sound(state.powered, i, x);
+        ok = ok & good;
+        i = i + 1;
+    }
+    ok
+}
+
+// The reading that an interrupt awaits.
+fn awaited_sound(powered: bool, awaited: Awaited) -> bool
+    ensures { λ r. ⌜ r ≡ awaitedb powered awaited ⌝ }
+{
+    let stage = awaited.stage;
+    let awaiting = state::is_awaiting(stage);
+    let chain = state::is_chain_stage(stage);
+    let e = awaited.endpoint;
+    (!awaiting | powered) & (!chain | ((1 <= e) & (e <= 7)))
+}
+
+// The state apart from its slots.
+fn own_sound(state: State, events: Events) -> bool
+    ensures { λ r. ⌜ r ≡ ownb state events ⌝ }
+{
+    let inside = in_ram(state.ep0_address, 512);
+    let apart = events::events_sound(events);
+    let awaited = state.awaited;
+    let asked = awaited_sound(state.powered, awaited);
+    ((state.ep0_address == 0) | inside) & (apart & ((!state.has_address | (state.address <= 127)) & ((state.tx_seq <= 31) & asked)))
+}
+
+pub fn sound(state: State, events: Events) -> bool
+    ensures { λ r. ⌜ r ≡ soundb state events ⌝ }
+{
+    let slots = slots_sound(state);
+    let own = own_sound(state, events);
+    slots & own
+}
+
+fn allocations_sound(driver: Driver) -> bool
+    ensures { λ r. ⌜ r ≡ allocationsb driver 16 ⌝ }
+{
+    let mut ok = true;
+    let mut i: usize = 0;
+    while i < 16 {
+        let a = driver.endpoints[i];
+        let config = a.config;
+        let good = config_sound(i, a.configured, config);
+        ok = ok & good;
+        i = i + 1;
+    }
+    ok
+}
+
+fn memory_sound(memory: u32, capacity: u32, used: u32) -> bool
+    ensures { λ r. ⌜ r ≡ memoryb memory capacity used ⌝ }
+{
+    let inside = in_ram(memory, capacity);
+    let even = is_aligned(memory);
+    inside & ((512 <= capacity) & (even & ((512 <= used) & (used <= capacity))))
+}
+
+pub fn driver_sound(driver: Driver) -> bool
+    ensures { λ r. ⌜ r ≡ driverSoundb driver ⌝ }
+{
+    let endpoints = allocations_sound(driver);
+    let memory = memory_sound(driver.memory, driver.capacity, driver.used);
+    endpoints & memory
+}
