@@ -1,7 +1,7 @@
 -- What 26 doesn't refuse: every clause is met.
 -- Assumes nothing.
 use Prim.Native.Nat.{ℕ}
-use mathlib.Core.Bool.{Bool, true, false, _&&_, _||_, not}
+use mathlib.Core.Bool.{Bool, true, false, _&&_, _||_, not, and-true}
 use lib.Dec.{eqb, leb, ltb}
 use mathlib.Core.List.{List, [], _∷_, _++_, map}
 use mathlib.Core.Path.{_≡_, refl, ap, sym, _∙_}
@@ -13,7 +13,7 @@ use Rattle.state.specs.declared.Events.{Events}
 use Rattle.state.specs.declared.Driver.{Driver}
 use Rattle.state.specs.Fresh.{slotAt, allocationAt}
 use Rattle.state.specs.Slots.{busyb}
-use Rattle.state.specs.Each.{every, every-all, all, all-append, and-true}
+use Rattle.state.specs.Each.{every, every-all, all, all-append}
 use Rattle.sound.specs.Clauses.{configClauses, useClauses, transferClauses, slotClauses, awaitedClauses, stateClauses, clauses, ofSlots, memoryClauses, ofAllocations, driverClauses, inRam, aligned, multiple, isIn}
 
 unfoldable pub soundb : State → Events → Bool

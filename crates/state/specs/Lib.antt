@@ -1,5 +1,6 @@
 pub mod Slots
 pub mod Fresh
 pub mod Numbers
+pub mod Refusals
 pub mod Awaiting
 pub mod Each

@@ -5,6 +5,7 @@ ghost use mathlib.Core.Path.{_≡_};
 ghost use Rattle.state.specs.Slots.{idleb, busyb, slotNumber, tallyCut, resetSlot};
 ghost use Rattle.state.specs.Fresh.{freshSlot, nothingAwaited, freshState};
 ghost use Rattle.state.specs.Awaiting.{stageNumber, awaitingb, chainStageb};
+ghost use Rattle.state.specs.Refusals.{firstOf};
 ghost use Rattle.state.specs.Numbers.{refusalNumber, readingInRange};
 
 pub const SLOTS: usize = 16;
@@ -204,6 +205,19 @@ pub struct Driver {
     pub endpoints: [Allocation; 16],
 }
 
+// What an endpoint is to be. Where `requested`, it is to have the address of `index` and `incoming`.
+pub struct EndpointRequest {
+    pub requested: bool,
+    pub index: u8,
+    pub incoming: bool,
+    pub ep_type: EndpointType,
+    pub max_packet_size: u16,
+    pub interval_ms: u8,
+    pub max_burst: u8,
+    pub max_streams: u16,
+    pub mult: u8,
+}
+
 // Why a call is refused; `refusal_number` has the numbers.
 pub enum Refusal {
     MemoryOutsideRam,
@@ -224,6 +238,22 @@ pub enum Refusal {
     OutOfTurn,
     NotSuspended,
     Unsound,
+}
+
+// What a call's tests come to.
+pub enum Check {
+    Fits,
+    Refused(Refusal),
+}
+
+// The refusal if it is due, else what further tests came to.
+pub fn first(due: bool, refusal: Refusal, further: Check) -> Check
+    ensures { λ r. ⌜ r ≡ firstOf due refusal further ⌝ }
+{
+    if due {
+        return Check::Refused(refusal);
+    }
+    further
 }
 
 pub fn refusal_number(refusal: Refusal) -> u32

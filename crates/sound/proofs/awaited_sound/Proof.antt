@@ -1,5 +1,5 @@
 use borrow.Author.Needs.{needs}
-use Rattle.state.specs.Each.{and-true}
+use mathlib.Core.Bool.{and-true}
 use Rattle.sound.specs.Sound.{awaitedb}
 use Rattle.sound.proofs.awaited_sound.Statement.{statement}
 use Rattle.sound.proofs.awaited_sound.Tie as tie

@@ -1,7 +1,7 @@
 use borrow.Author.Needs.{needs}
 use Rattle.sound.specs.Clauses.{aligned}
 use borrow.Author.Tests.{eq-eqb, ne-eqb, lt-ltb, le-ltb}
-use Rattle.state.specs.Each.{and-true}
+use mathlib.Core.Bool.{and-true}
 use Rattle.sound.specs.Sound.{busyClausesb}
 use Rattle.sound.proofs.busy_sound.Statement.{statement}
 use Rattle.sound.proofs.busy_sound.Tie as tie

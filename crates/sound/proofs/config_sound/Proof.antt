@@ -2,7 +2,7 @@ use borrow.Author.Needs.{needs}
 use mathlib.Core.Bool.{_&&_}
 use lib.Dec.{ltb}
 use Rattle.sound.specs.Clauses.{multiple}
-use Rattle.state.specs.Each.{and-true}
+use mathlib.Core.Bool.{and-true}
 use Rattle.sound.specs.Sound.{configb}
 use Rattle.sound.proofs.config_sound.Statement.{statement}
 use Rattle.sound.proofs.config_sound.Tie as tie

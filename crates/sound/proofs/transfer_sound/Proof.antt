@@ -1,7 +1,7 @@
 use borrow.Author.Needs.{needs}
 use mathlib.Core.Path.{sym, _∙_}
 use borrow.Author.Tests.{eq-eqb, ne-eqb, lt-ltb, le-ltb}
-use Rattle.state.specs.Each.{and-true}
+use mathlib.Core.Bool.{and-true}
 use Rattle.sound.specs.Sound.{transferb, transfer-busy, transfer-calm}
 use Rattle.sound.proofs.transfer_sound.Statement.{statement}
 use Rattle.sound.proofs.transfer_sound.Tie as tie

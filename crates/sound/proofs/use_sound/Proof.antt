@@ -1,6 +1,6 @@
 use borrow.Author.Needs.{needs}
 use borrow.Author.Tests.{eq-eqb, ne-eqb, lt-ltb, le-ltb}
-use Rattle.state.specs.Each.{and-true}
+use mathlib.Core.Bool.{and-true}
 use Rattle.sound.specs.Sound.{useb}
 use Rattle.sound.proofs.use_sound.Statement.{statement}
 use Rattle.sound.proofs.use_sound.Tie as tie
