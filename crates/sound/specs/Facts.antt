@@ -1,16 +1,23 @@
 -- What soundness comes to, as facts to reason with.
 -- Assumes nothing.
 use Prim.Native.Nat.{ℕ, _+_, _%_, _≤_, _<_}
-use mathlib.Core.Bool.{Bool, true, false, _&&_, _||_, not}
+use mathlib.Core.Bool.{Bool, true, false, _&&_, _||_, or-true}
 use mathlib.Core.Path.{_≡_, refl, sym, _∙_}
 use borrow.Author.Tests.{leb-true, eqb-true, le-leb, eq-eqb}
-use lib.Dec.{leb, eqb}
+use lib.Dec.{leb, ltb, eqb}
 use native.Mathlib.Omega.{arith}
+use Rattle.state.specs.declared.EndpointConfig.{EndpointConfig}
+use Rattle.state.specs.declared.Phase.the-variants.{Idle}
+use Rattle.state.specs.declared.Transfer.{Transfer}
+use Rattle.state.specs.declared.Tally.{Tally}
+use Rattle.state.specs.declared.Slot.{Slot}
+use Rattle.state.specs.declared.State.{State}
+use Rattle.state.specs.declared.Events.{Events}
 use Rattle.state.specs.declared.Driver.{Driver}
-use Rattle.state.specs.Fresh.{allocationAt}
+use Rattle.state.specs.Fresh.{noConfig, freshSlot, slotAt, allocationAt}
 use Rattle.state.specs.Each.{every-at, every-make, and-left, and-right, and-both}
-use Rattle.sound.specs.Clauses.{inRam, aligned}
-use Rattle.sound.specs.Sound.{configb, memoryb, allocationsb, driverSoundb, driver-parts}
+use Rattle.sound.specs.Clauses.{inRam, aligned, ep0}
+use Rattle.sound.specs.Sound.{configb, useb, transferb, slotb, slot-parts, transfer-calm, slotsb, ownb, soundb, sound-parts, memoryb, allocationsb, driverSoundb, driver-parts}
 
 pub record InRam (address length : ℕ) : Type 0 where
   pub low : 0x200A0000 ≤ address
@@ -62,3 +69,34 @@ driver-is d f =
     (and-both (leb 512 k) _ (le-leb _ _ enough)
     (and-both (aligned m) _ (eq-eqb _ _ (f .even))
     (and-both (leb 512 u) _ (le-leb _ _ (f .ep0)) (and-both (leb u k) true (le-leb _ _ (f .room)) refl)))))
+
+-- a slot that is off, with no transfer in hand, is sound where its configuration and its progress are
+pub off-sound : (powered : Bool) (i : ℕ) (configured : Bool) (k : EndpointConfig) (t : Transfer) (y : Tally) → configb i configured k ≡ true
+    → (ep0 i || leb (t .progress) (t .length)) ≡ true
+    → slotb powered i (record { configured = configured; config = k; enabled = false; stalled = false; phase = Idle; transfer = t; tally = y }) ≡ true
+unfolding useb transferb
+off-sound powered i configured k t y hk ht = go (ltb i 2) refl
+  where
+    off : Slot
+    off = record { configured = configured; config = k; enabled = false; stalled = false; phase = Idle; transfer = t; tally = y }
+    parts : useb powered i off ≡ true → transferb i off ≡ true → slotb powered i off ≡ true
+    parts hu hm = sym (slot-parts powered i off) ∙ and-both (useb powered i off && configb i configured k) (transferb i off) (and-both (useb powered i off) (configb i configured k) hu hk) hm
+    go : (b : Bool) → ltb i 2 ≡ b → slotb powered i off ≡ true
+    go true e = parts (rw e) (rw e)
+    go false e = parts (rw e) (sym (transfer-calm i off e refl) ∙ (rw e at ht))
+
+pub fresh-slot-sound : (powered : Bool) (i : ℕ) → slotb powered i freshSlot ≡ true
+unfolding configb
+fresh-slot-sound powered i = off-sound powered i false noConfig (freshSlot .transfer) (freshSlot .tally) refl (or-true (ep0 i))
+
+-- each slot of a sound state is sound, and so is the rest of it
+pub slot-sound : (s : State) (e : Events) → soundb s e ≡ true → (i : ℕ) → i < 16 → slotb (s .powered) i (slotAt s i) ≡ true
+unfolding slotsb
+slot-sound s e h i b = every-at (λ k. slotb (s .powered) k (slotAt s k)) 16 i (and-left (slotsb s 16) (ownb s e) (sound-parts s e ∙ h)) b
+
+pub own-sound : (s : State) (e : Events) → soundb s e ≡ true → ownb s e ≡ true
+own-sound s e h = and-right (slotsb s 16) (ownb s e) (sound-parts s e ∙ h)
+
+pub sound-is : (s : State) (e : Events) → ((i : ℕ) → i < 16 → slotb (s .powered) i (slotAt s i) ≡ true) → ownb s e ≡ true → soundb s e ≡ true
+unfolding slotsb
+sound-is s e h o = sym (sound-parts s e) ∙ and-both (slotsb s 16) (ownb s e) (every-make (λ k. slotb (s .powered) k (slotAt s k)) 16 h) o

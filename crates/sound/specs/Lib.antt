@@ -1,3 +1,4 @@
 pub mod Clauses
 pub mod Sound
 pub mod Facts
+pub mod Faults

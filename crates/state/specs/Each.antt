@@ -5,6 +5,7 @@ use mathlib.Core.Bool.{Bool, true, false, _&&_, and-assoc}
 use mathlib.Core.List.{List, [], _∷_, _++_, map}
 use mathlib.Core.Path.{_≡_, refl, ap, sym, _∙_}
 use native.Mathlib.Numerals.{add-one}
+use native.Mathlib.Nat.{add-zero, zero-add}
 use native.Mathlib.Omega.{arith}
 use borrow.Author.Tests.{eqb-true, eqb-false}
 use lib.Dec.{eqb}
@@ -23,11 +24,6 @@ every-none p = refl
 pub every-next : (p : ℕ → Bool) (n : ℕ) → every p (n + 1) ≡ (every p n && p n)
 unfolding every
 every-next p n = rw (add-one n)
-
--- f 0, f 1, .., f (n - 1)
-unfoldable pub listOf : {A : Type 0} → (ℕ → A) → ℕ → List A
-listOf f zero = []
-listOf f (suc n) = listOf f n ++ (f n ∷ [])
 
 -- whether all of a list is true
 abbrev pub all : List Bool → Bool
@@ -84,3 +80,48 @@ pub every-make : (p : ℕ → Bool) (n : ℕ) → ((i : ℕ) → i < n → p i �
 unfolding every
 every-make p zero h = refl
 every-make p (suc n) h = and-both (every p n) (p n) (every-make p n (λ i k. h i (omega (arith, k)))) (h n (omega arith))
+
+-- the first n entries of a list, the first of which has number k, each changed by f
+unfoldable pub changeFrom : {A : Type 0} → ℕ → (ℕ → A → A) → ℕ → List A → List A
+changeFrom k f zero l = l
+changeFrom k f (suc n) [] = []
+changeFrom k f (suc n) (x ∷ l) = f k x ∷ changeFrom (suc k) f n l
+
+abbrev pub change : {A : Type 0} → (ℕ → A → A) → ℕ → List A → List A
+change f n l = changeFrom 0 f n l
+
+pub change-none : {A : Type 0} (f : ℕ → A → A) (l : List A) → change f 0 l ≡ l
+unfolding changeFrom
+change-none f l = refl
+
+set-next : {A : Type 0} (k : ℕ) (f : ℕ → A → A) (n : ℕ) (l : List A) (d : A) → set (changeFrom k f n l) n (f (k + n) (getD l n d)) ≡ changeFrom k f (suc n) l
+unfolding changeFrom
+set-next k f zero [] d = refl
+set-next k f zero (x ∷ l) d = rw (add-zero k)
+set-next k f (suc n) [] d = refl
+set-next k f (suc n) (x ∷ l) d =
+    let shift : k + suc n ≡ suc k + n = omega arith in
+    rw shift (ap (λ t. f k x ∷ t) (set-next (suc k) f n l d))
+
+-- changing the next entry
+pub change-next : {A : Type 0} (f : ℕ → A → A) (n : ℕ) (l : List A) (d : A) → set (change f n l) n (f n (getD l n d)) ≡ change f (n + 1) l
+change-next f n l d = rw (add-one n) (rw (zero-add n) at (set-next 0 f n l d))
+
+change-from-at : {A : Type 0} (k : ℕ) (f : ℕ → A → A) (n : ℕ) (l : List A) (i : ℕ) (d : A) → i < n → i < length l → getD (changeFrom k f n l) i d ≡ f (k + i) (getD l i d)
+unfolding changeFrom
+change-from-at k f zero l i d h b = absurd (omega (arith, h))
+change-from-at k f (suc n) [] i d h b = absurd (omega (arith, b))
+change-from-at k f (suc n) (x ∷ l) zero d h b = rw (add-zero k)
+change-from-at k f (suc n) (x ∷ l) (suc i) d h b =
+    let shift : k + suc i ≡ suc k + i = omega arith in
+    rw shift (change-from-at (suc k) f n l i d (omega (arith, h)) (omega (arith, b)))
+
+-- an entry after its change
+pub change-at : {A : Type 0} (f : ℕ → A → A) (n : ℕ) (l : List A) (i : ℕ) (d : A) → i < n → i < length l → getD (change f n l) i d ≡ f i (getD l i d)
+change-at f n l i d h b = rw (zero-add i) at (change-from-at 0 f n l i d h b)
+
+pub change-length : {A : Type 0} (k : ℕ) (f : ℕ → A → A) (n : ℕ) (l : List A) → length (changeFrom k f n l) ≡ length l
+unfolding changeFrom
+change-length k f zero l = refl
+change-length k f (suc n) [] = refl
+change-length k f (suc n) (x ∷ l) = ap suc (change-length (suc k) f n l)

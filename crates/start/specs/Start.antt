@@ -1,0 +1,118 @@
+-- Starting a driver (reference: `start` of device.rs).
+-- Assumes nothing.
+use Prim.Native.Nat.{ℕ, _+_}
+use mathlib.Core.Path.{_≡_}
+use mathlib.Core.Bool.{Bool, true, false, _&&_, not}
+use mathlib.Core.List.{List, [], _∷_}
+use lib.Dec.{eqb, leb}
+use lib.ListN.{set}
+use Rattle.state.specs.declared.Phase.the-variants.{Idle}
+use Rattle.state.specs.declared.Slot.{Slot}
+use Rattle.state.specs.declared.Allocation.{Allocation}
+use Rattle.state.specs.declared.State.{State}
+use Rattle.state.specs.declared.Events.{Events}
+use Rattle.state.specs.declared.Driver.{Driver}
+use Rattle.state.specs.declared.Refusal.the-variants.{Unsound, OutOfTurn, ControlPacketSize}
+use Rattle.state.specs.declared.Check.{Check}
+use Rattle.state.specs.declared.Check.the-variants.{Fits, Refused}
+use Rattle.state.specs.Slots.{resetSlot}
+use Rattle.state.specs.Fresh.{freshSlot, slotAt, allocationAt}
+use Rattle.state.specs.Awaiting.{awaitingb}
+use Rattle.state.specs.Refusals.{Due, _if_, firstDue}
+use Rattle.state.specs.Each.{change, change-none, change-next}
+use Rattle.events.specs.Pending.{power}
+use Rattle.sound.specs.Sound.{soundb, driverSoundb}
+use Rattle.start.specs.declared.StartAnswer.the-variants as start
+use Rattle.start.specs.declared.StartResult.{StartResult}
+
+-- a slot forgets its transfer and gets what the driver allocated for it
+abbrev pub configuredSlot : Slot → Allocation → Slot
+configuredSlot x a =
+    record {
+      configured = a .configured;
+      config = a .config;
+      enabled = x .enabled;
+      stalled = x .stalled;
+      phase = x .phase;
+      transfer = x .transfer;
+      tally = x .tally;
+    }
+
+abbrev pub startedSlot : Driver → ℕ → Slot → Slot
+startedSlot d i x = configuredSlot (resetSlot x (leb 2 i) false) (allocationAt d i)
+
+abbrev pub withSlots : State → List Slot → State
+withSlots s slots =
+    record {
+      endpoints = slots;
+      «ep0_address» = s .«ep0_address»;
+      powered = s .powered;
+      suspended = s .suspended;
+      wake = s .wake;
+      «has_setup» = s .«has_setup»;
+      setup = s .setup;
+      «control_generation» = s .«control_generation»;
+      «in_last» = s .«in_last»;
+      «tx_seq» = s .«tx_seq»;
+      «has_address» = s .«has_address»;
+      address = s .address;
+      revision = s .revision;
+      «reset_seen» = s .«reset_seen»;
+      «low_power» = s .«low_power»;
+      awaited = s .awaited;
+    }
+
+-- EP0 gets the start of the memory; the device is off, and no SETUP waits
+abbrev pub withMemory : State → ℕ → State
+withMemory s memory =
+    record {
+      endpoints = s .endpoints;
+      «ep0_address» = memory;
+      powered = false;
+      suspended = s .suspended;
+      wake = s .wake;
+      «has_setup» = false;
+      setup = s .setup;
+      «control_generation» = s .«control_generation»;
+      «in_last» = s .«in_last»;
+      «tx_seq» = s .«tx_seq»;
+      «has_address» = s .«has_address»;
+      address = s .address;
+      revision = s .revision;
+      «reset_seen» = s .«reset_seen»;
+      «low_power» = s .«low_power»;
+      awaited = s .awaited;
+    }
+
+unfoldable pub startedSlots : Driver → ℕ → List Slot → List Slot
+startedSlots d n slots = change (startedSlot d) n slots
+
+pub started-none : (s : State) (d : Driver) → withSlots s (startedSlots d 0 (s .endpoints)) ≡ s
+unfolding startedSlots
+started-none s d = rw (change-none (startedSlot d) (s .endpoints))
+
+pub started-next : (s₀ s : State) (d : Driver) (i : ℕ) (y : Slot) → s ≡ withSlots s₀ (startedSlots d i (s₀ .endpoints)) → y ≡ startedSlot d i (slotAt s₀ i)
+    → withSlots s (set (s .endpoints) i y) ≡ withSlots s₀ (startedSlots d (i + 1) (s₀ .endpoints))
+unfolding startedSlots
+started-next s₀ s d i y h e = rw (h, e, change-next (startedSlot d) i (s₀ .endpoints) freshSlot)
+
+abbrev pub startedState : State → Driver → State
+startedState s d = withMemory (withSlots s (startedSlots d 16 (s .endpoints))) (d .memory)
+
+abbrev pub startDues : State → Events → Driver → ℕ → List Due
+startDues s e d size =
+    Unsound if not (soundb s e && driverSoundb d)
+    ∷ OutOfTurn if awaitingb (s .awaited .stage)
+    ∷ ControlPacketSize if not (eqb size 512)
+    ∷ []
+
+unfoldable pub startCheck : State → Events → Driver → ℕ → Check
+startCheck s e d size = firstDue (startDues s e d size)
+
+-- POWER is pending alone
+abbrev pub startAt : Check → State → Events → Driver → StartResult
+startAt Fits s e d = record { answer = start.Started; state = startedState s d; events = record { events = power } }
+startAt (Refused r) s e d = record { answer = start.Refused r; state = s; events = e }
+
+unfoldable pub startResult : State → Events → Driver → ℕ → StartResult
+startResult s e d size = startAt (startCheck s e d size) s e d
