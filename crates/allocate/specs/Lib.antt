@@ -1,2 +1,4 @@
 pub mod Rules
+pub mod Lowest
 pub mod Allocate
+pub mod Layout

@@ -19,11 +19,14 @@ abbrev pub up4 : ℕ → ℕ
 up4 n = (n + 3) / 4 * 4
 
 -- refusal 3: bulk has packets of 1024 bytes; interrupt and isochronous of 1–1024, with an interval; control is never allocated
+abbrev pub periodicFits : ℕ → ℕ → Bool
+periodicFits size interval = leb 1 size && leb size 1024 && not (eqb interval 0)
+
 abbrev pub sizeFits : EndpointType → ℕ → ℕ → Bool
 sizeFits Control size interval = false
-sizeFits Isochronous size interval = leb 1 size && leb size 1024 && not (eqb interval 0)
+sizeFits Isochronous size interval = periodicFits size interval
 sizeFits Bulk size interval = eqb size 1024
-sizeFits Interrupt size interval = leb 1 size && leb size 1024 && not (eqb interval 0)
+sizeFits Interrupt size interval = periodicFits size interval
 
 -- refusal 4: burst 0–15, neither streams nor mult
 abbrev pub burstFits : ℕ → ℕ → ℕ → Bool

@@ -1,1 +1,4 @@
 pub mod Pending
+pub mod Events
+pub mod Bits
+pub mod Laws

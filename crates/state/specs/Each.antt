@@ -55,13 +55,16 @@ pub every-all : (cs : List (ℕ → Bool)) (n : ℕ) → every (λ i. all (map (
 every-all [] n = every-true n
 every-all (c ∷ cs) n = every-both c (λ i. all (map (λ (d : ℕ → Bool). d i) cs)) n ∙ ap (λ b. every c n && b) (every-all cs n)
 
+pub true-not-false : true ≡ false → ⊥
+true-not-false h = omega (arith, ap bit h)
+
 pub and-left : (a b : Bool) → (a && b) ≡ true → a ≡ true
 and-left true b h = refl
 and-left false b h = h
 
 pub and-right : (a b : Bool) → (a && b) ≡ true → b ≡ true
 and-right true b h = h
-and-right false b h = absurd (omega (arith, ap bit h))
+and-right false b h = absurd (true-not-false (sym h))
 
 pub and-both : (a b : Bool) → a ≡ true → b ≡ true → (a && b) ≡ true
 and-both a b h k = rw (h, k)

@@ -1,0 +1,57 @@
+-- That the words "lowest" and "next multiple of 4" are earned.
+-- Assumes nothing.
+use Prim.Native.Nat.{ℕ, zero, suc, _%_, _≤_, _<_}
+use mathlib.Core.Bool.{Bool, true, false, _&&_, cond}
+use mathlib.Core.Path.{_≡_, refl, sym, _∙_}
+use native.Mathlib.Omega.{arith}
+use borrow.Author.Tests.{eqb-true, eqb-false}
+use lib.Dec.{eqb}
+use Rattle.allocate.specs.Rules.{up4, lowest}
+
+pub up4-above : (n : ℕ) → n ≤ up4 n
+up4-above n = omega arith
+
+pub up4-even : (n : ℕ) → up4 n % 4 ≡ 0
+up4-even n = omega arith
+
+pub up4-least : (n m : ℕ) → n ≤ m → m % 4 ≡ 0 → up4 n ≤ m
+up4-least n m h e = omega (arith, h, e)
+
+-- k is the lowest of 1, .., n that p is true of; or 0, and p is true of none
+pub record Lowest (p : ℕ → Bool) (n k : ℕ) : Type 0 where
+  pub within : k ≤ n
+  pub true-of : (k ≡ 0 → ⊥) → p k ≡ true
+  pub none-below : (j : ℕ) → 1 ≤ j → j < k → p j ≡ false
+  pub none-at-all : k ≡ 0 → (j : ℕ) → 1 ≤ j → j ≤ n → p j ≡ false
+
+pub lowest-is : (p : ℕ → Bool) (n : ℕ) → Lowest p n (lowest p n)
+unfolding lowest
+lowest-is p zero = record { within = omega arith; true-of = λ h. absurd (h refl); none-below = λ j h k. absurd (omega (arith, h, k)); none-at-all = λ z j h k. absurd (omega (arith, h, k)) }
+lowest-is p (suc n) = go (eqb (lowest p n) 0) refl (p (suc n)) refl (lowest-is p n)
+  where
+    go : (b : Bool) → eqb (lowest p n) 0 ≡ b → (c : Bool) → p (suc n) ≡ c → Lowest p n (lowest p n) → Lowest p (suc n) (cond (b && c) (suc n) (lowest p n))
+    go false e c q l =
+      record {
+        within = omega (arith, l .within);
+        true-of = l .true-of;
+        none-below = l .none-below;
+        none-at-all = λ z. absurd (eqb-false (lowest p n) 0 e z);
+      }
+    go true e true q l =
+      record {
+        within = omega arith;
+        true-of = λ h. q;
+        none-below = λ j h k. l .none-at-all (eqb-true (lowest p n) 0 e) j h (omega (arith, k));
+        none-at-all = λ z. absurd (omega (arith, z));
+      }
+    go true e false q l =
+      record {
+        within = omega (arith, l .within);
+        true-of = l .true-of;
+        none-below = l .none-below;
+        none-at-all = λ z j h k. last j (eqb j (suc n)) refl h k;
+      }
+      where
+        last : (j : ℕ) (b : Bool) → eqb j (suc n) ≡ b → 1 ≤ j → j ≤ suc n → p j ≡ false
+        last j true t h k = rw (eqb-true j (suc n) t) q
+        last j false t h k = l .none-at-all (eqb-true (lowest p n) 0 e) j h (omega (arith, k, eqb-false j (suc n) t))
