@@ -3,7 +3,7 @@
 use Prim.Native.Nat.{ℕ, _+_, _-_, _^_, _<_, _≤_}
 use mathlib.Core.Bool.{Bool, true, false, not}
 use mathlib.Core.List.{List, [], _∷_}
-use mathlib.Core.Path.{_≡_}
+use mathlib.Core.Path.{_≡_, refl}
 use native.Mathlib.Omega.{arith}
 use borrow.Author.Tests.{not-false, eqb-false, ltb-false}
 use lib.Dec.{eqb, ltb}
@@ -16,11 +16,13 @@ use Rattle.state.specs.declared.Check.{Check}
 use Rattle.state.specs.declared.Check.the-variants.{Fits, Refused}
 use Rattle.state.specs.Slots.{slotNumber}
 use Rattle.state.specs.Fresh.{noAllocation}
+use Rattle.state.specs.Numbers.{refusalNumber, checkNumber}
 use Rattle.state.specs.Refusals.{Due, _if_, firstDue, none-due, not-due}
 use Rattle.sound.specs.Clauses.{inRam}
 use Rattle.sound.specs.Sound.{driverSoundb}
 use Rattle.sound.specs.Facts.{in-ram, DriverFacts, driver-facts}
 use Rattle.allocate.specs.Rules.{up4, sizeFits, burstFits, directionFits, endpointFor, startFor, sizeFor, endFor}
+use Rattle.allocate.specs.declared.NewAnswer.{NewAnswer}
 use Rattle.allocate.specs.declared.NewAnswer.the-variants as new
 use Rattle.allocate.specs.declared.NewResult.{NewResult}
 use Rattle.allocate.specs.declared.AllocateAnswer.{AllocateAnswer}
@@ -57,6 +59,24 @@ newAt (Refused r) address length = record { answer = new.Refused r; driver = noD
 
 unfoldable pub newResult : ℕ → ℕ → NewResult
 newResult address length = newAt (newCheck address length) address length
+
+-- the number of an answer: 0 for a driver made, else the refusal's
+abbrev pub newNumber : NewAnswer → ℕ
+newNumber new.Made = 0
+newNumber (new.Refused r) = refusalNumber r
+
+new-number : (address length : ℕ) → newNumber (newResult address length .answer) ≡ checkNumber (newCheck address length)
+unfolding newResult
+new-number address length = go (newCheck address length)
+  where
+    go : (c : Check) → newNumber (newAt c address length .answer) ≡ checkNumber c
+    go Fits = refl
+    go (Refused r) = refl
+
+-- an answer that is right has the right number
+pub new-told : (r : NewResult) (address length : ℕ) → r ≡ newResult address length
+    → (r ≡ newResult address length) × (newNumber (r .answer) ≡ checkNumber (newCheck address length))
+new-told r address length e = (e, rw e (new-number address length))
 
 abbrev pub allocateDues : Driver → Bool → EndpointRequest → List Due
 allocateDues d incoming r =
@@ -103,6 +123,28 @@ allocateAt (Refused q) d incoming r = record { answer = allocate.Refused q; driv
 
 unfoldable pub allocateResult : Driver → Bool → EndpointRequest → AllocateResult
 allocateResult d incoming r = allocateAt (allocateCheck d incoming r) d incoming r
+
+-- the numbers of an answer: the refusal's, or 0 and the endpoint, its buffer's address and length
+abbrev pub allocateNumbers : AllocateAnswer → List ℕ
+allocateNumbers (allocate.Refused q) = refusalNumber q ∷ []
+allocateNumbers (allocate.Endpoint k) = 0 ∷ k .index ∷ k .buffer .address ∷ k .buffer .size ∷ []
+
+abbrev pub numbersFor : Check → Driver → Bool → EndpointRequest → List ℕ
+numbersFor Fits d incoming r = 0 ∷ endpointFor d incoming r ∷ (d .memory + startFor d) ∷ sizeFor r ∷ []
+numbersFor (Refused q) d incoming r = refusalNumber q ∷ []
+
+allocate-numbers : (d : Driver) (incoming : Bool) (r : EndpointRequest)
+    → allocateNumbers (allocateResult d incoming r .answer) ≡ numbersFor (allocateCheck d incoming r) d incoming r
+unfolding allocateResult placed
+allocate-numbers d incoming r = go (allocateCheck d incoming r)
+  where
+    go : (c : Check) → allocateNumbers (allocateAt c d incoming r .answer) ≡ numbersFor c d incoming r
+    go Fits = refl
+    go (Refused q) = refl
+
+pub allocate-told : (x : AllocateResult) (d : Driver) (incoming : Bool) (r : EndpointRequest) → x ≡ allocateResult d incoming r
+    → (x ≡ allocateResult d incoming r) × (allocateNumbers (x .answer) ≡ numbersFor (allocateCheck d incoming r) d incoming r)
+allocate-told x d incoming r e = (e, rw e (allocate-numbers d incoming r))
 
 -- where a driver can be made, its aligned start is a 32-bit address
 pub new-start : (a l : ℕ) → newCheck a l ≡ Fits → up4 a < 2 ^ 32

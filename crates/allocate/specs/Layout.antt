@@ -70,13 +70,13 @@ new-layout a l h =
     let none : (i : ℕ) → i < 16 → allocationAt (newDriver a l) i ≡ noAllocation = λ i b. getD-replicate 16 i noAllocation noAllocation b in
     record {
       facts =
-        record {
-          ram = record { low = omega (arith, ram .low); high = omega (arith, ram .high, enough) };
-          even = omega arith;
-          ep0 = omega arith;
-          room = enough;
-          configs = λ i b. rw (none i b) (empty-config i);
-        };
+          record {
+            ram = record { low = omega (arith, ram .low); high = omega (arith, ram .high, enough) };
+            even = omega arith;
+            ep0 = omega arith;
+            room = enough;
+            configs = λ i b. rw (none i b) (empty-config i);
+          };
       slots = length-replicate 16 noAllocation;
       within = λ i b c. nothing-in _ (ap (λ (x : Allocation). x .configured) (none i b)) c;
       apart = λ i j b b′ n c c′. nothing-in _ (ap (λ (x : Allocation). x .configured) (none i b)) c;
@@ -158,27 +158,27 @@ module _ (d : Driver) (incoming : Bool) (r : EndpointRequest) (a : Accepted d in
   with-layout =
       record {
         facts =
-          record {
-            ram = a .driver .ram;
-            even = a .driver .even;
-            ep0 = omega (arith, a .driver .ep0);
-            room = a .room;
-            configs = by-slot (λ i x. configb i (x .configured) (x .config) ≡ true) (config-placed d incoming r a) (λ i n b. a .driver .configs i b);
-          };
+            record {
+              ram = a .driver .ram;
+              even = a .driver .even;
+              ep0 = omega (arith, a .driver .ep0);
+              room = a .room;
+              configs = by-slot (λ i x. configb i (x .configured) (x .config) ≡ true) (config-placed d incoming r a) (λ i n b. a .driver .configs i b);
+            };
         slots = length-set (d .endpoints) here _ ∙ l .slots;
         within = by-slot (λ i x. x .configured ≡ true → Within there (x .config .buffer)) (λ c. new-within) (λ i n b c. still-within (bufferAt d i) (l .within i b c));
         apart =
-          λ i j b b′ n c c′.
-          by-slot (λ i x. (j : ℕ) → j < 16 → (i ≡ j → ⊥) → x .configured ≡ true → allocated there j ≡ true → Apart (x .config .buffer) (bufferAt there j))
-          (λ j b n c. by-slot (λ j y. (here ≡ j → ⊥) → y .configured ≡ true → Apart (configFor d incoming r .buffer) (y .config .buffer)) (λ n c. absurd (n refl)) (λ j m b n c. inr (before-new (bufferAt d j) (l .within j b c))) j b n)
-          (λ i m b j b′ n c. by-slot (λ j y. (i ≡ j → ⊥) → y .configured ≡ true → Apart (bufferAt d i) (y .config .buffer)) (λ n c′. inl (before-new (bufferAt d i) (l .within i b c))) (λ j m b′ n c′. l .apart i j b b′ n c c′) j b′ n)
-          i
-          b
-          j
-          b′
-          n
-          c
-          c′;
+            λ i j b b′ n c c′.
+            by-slot (λ i x. (j : ℕ) → j < 16 → (i ≡ j → ⊥) → x .configured ≡ true → allocated there j ≡ true → Apart (x .config .buffer) (bufferAt there j))
+            (λ j b n c. by-slot (λ j y. (here ≡ j → ⊥) → y .configured ≡ true → Apart (configFor d incoming r .buffer) (y .config .buffer)) (λ n c. absurd (n refl)) (λ j m b n c. inr (before-new (bufferAt d j) (l .within j b c))) j b n)
+            (λ i m b j b′ n c. by-slot (λ j y. (i ≡ j → ⊥) → y .configured ≡ true → Apart (bufferAt d i) (y .config .buffer)) (λ n c′. inl (before-new (bufferAt d i) (l .within i b c))) (λ j m b′ n c′. l .apart i j b b′ n c c′) j b′ n)
+            i
+            b
+            j
+            b′
+            n
+            c
+            c′;
       }
 
 -- a request, and the direction it is made for

@@ -1,12 +1,17 @@
 -- That the words "lowest" and "next multiple of 4" are earned.
 -- Assumes nothing.
 use Prim.Native.Nat.{ℕ, zero, suc, _%_, _≤_, _<_}
-use mathlib.Core.Bool.{Bool, true, false, _&&_, cond}
+use mathlib.Core.Bool.{Bool, true, false, _&&_, _||_, not, cond}
 use mathlib.Core.Path.{_≡_, refl, sym, _∙_}
 use native.Mathlib.Omega.{arith}
-use borrow.Author.Tests.{eqb-true, eqb-false}
+use borrow.Author.Tests.{eqb-true, eqb-false, not-true}
 use lib.Dec.{eqb}
-use Rattle.allocate.specs.Rules.{up4, lowest}
+use Rattle.state.specs.declared.EndpointRequest.{EndpointRequest}
+use Rattle.state.specs.declared.Driver.{Driver}
+use Rattle.state.specs.Slots.{slotNumber}
+use Rattle.state.specs.Fresh.{allocationAt}
+use Rattle.state.specs.Each.{and-left, and-right, implied}
+use Rattle.allocate.specs.Rules.{up4, lowest, available, endpointFor}
 
 pub up4-above : (n : ℕ) → n ≤ up4 n
 up4-above n = omega arith
@@ -31,27 +36,47 @@ lowest-is p (suc n) = go (eqb (lowest p n) 0) refl (p (suc n)) refl (lowest-is p
   where
     go : (b : Bool) → eqb (lowest p n) 0 ≡ b → (c : Bool) → p (suc n) ≡ c → Lowest p n (lowest p n) → Lowest p (suc n) (cond (b && c) (suc n) (lowest p n))
     go false e c q l =
-      record {
-        within = omega (arith, l .within);
-        true-of = l .true-of;
-        none-below = l .none-below;
-        none-at-all = λ z. absurd (eqb-false (lowest p n) 0 e z);
-      }
+        record {
+          within = omega (arith, l .within);
+          true-of = l .true-of;
+          none-below = l .none-below;
+          none-at-all = λ z. absurd (eqb-false (lowest p n) 0 e z);
+        }
     go true e true q l =
-      record {
-        within = omega arith;
-        true-of = λ h. q;
-        none-below = λ j h k. l .none-at-all (eqb-true (lowest p n) 0 e) j h (omega (arith, k));
-        none-at-all = λ z. absurd (omega (arith, z));
-      }
+        record {
+          within = omega arith;
+          true-of = λ h. q;
+          none-below = λ j h k. l .none-at-all (eqb-true (lowest p n) 0 e) j h (omega (arith, k));
+          none-at-all = λ z. absurd (omega (arith, z));
+        }
     go true e false q l =
-      record {
-        within = omega (arith, l .within);
-        true-of = l .true-of;
-        none-below = l .none-below;
-        none-at-all = λ z j h k. last j (eqb j (suc n)) refl h k;
-      }
+        record {
+          within = omega (arith, l .within);
+          true-of = l .true-of;
+          none-below = l .none-below;
+          none-at-all = λ z j h k. last j (eqb j (suc n)) refl h k;
+        }
       where
         last : (j : ℕ) (b : Bool) → eqb j (suc n) ≡ b → 1 ≤ j → j ≤ suc n → p j ≡ false
         last j true t h k = rw (eqb-true j (suc n) t) q
         last j false t h k = l .none-at-all (eqb-true (lowest p n) 0 e) j h (omega (arith, k, eqb-false j (suc n) t))
+
+-- the endpoint that a request gets is 1 to 7, was free, and is the one requested if one is
+pub record Fitting (d : Driver) (incoming : Bool) (r : EndpointRequest) : Type 0 where
+  pub least : 1 ≤ endpointFor d incoming r
+  pub most : endpointFor d incoming r ≤ 7
+  pub free : allocationAt d (slotNumber (endpointFor d incoming r) incoming) .configured ≡ false
+  pub requested : r .requested ≡ true → endpointFor d incoming r ≡ r .index
+
+pub fitting : (d : Driver) (incoming : Bool) (r : EndpointRequest) → (endpointFor d incoming r ≡ 0 → ⊥) → Fitting d incoming r
+fitting d incoming r n =
+    let e = endpointFor d incoming r in
+    let l = lowest-is (available d incoming (r .requested) (r .index)) 7 in
+    let t = l .true-of n in
+    let taken = allocationAt d (slotNumber e incoming) .configured in
+    record {
+      least = omega (arith, n);
+      most = l .within;
+      free = not-true taken (and-left (not taken) (not (r .requested) || eqb (r .index) e) t);
+      requested = λ q. sym (eqb-true (r .index) e (implied (r .requested) (eqb (r .index) e) q (and-right (not taken) (not (r .requested) || eqb (r .index) e) t)));
+    }

@@ -4,10 +4,17 @@ ghost use Prim.Native.Nat.{_≤_, _<_, _+_, _*_};
 ghost use mathlib.Core.Bool.{not, _&&_, cond};
 ghost use lib.Dec.{eqb};
 ghost use Rattle.state.specs.Slots.{slotNumber};
-ghost use Rattle.state.specs.Fresh.{allocationAt};
+ghost use Rattle.state.specs.Numbers.{checkNumber};
 ghost use Rattle.allocate.specs.Rules.{up4, sizeFits, burstFits, directionFits, endpointFor, available, lowest};
-ghost use Rattle.allocate.specs.Allocate.{capacityOf, newCheck, emptyDriver, newResult, allocateCheck, Placeable, placed, allocateResult};
-use state::{Allocation, Buffer, Check, Driver, EndpointConfig, EndpointRequest, EndpointType, Refusal};
+ghost use Rattle.allocate.specs.Allocate.{capacityOf, newCheck, newNumber, emptyDriver, newResult, allocateCheck, Placeable, placed, allocateResult, allocateNumbers, numbersFor};
+use state::Allocation;
+use state::Buffer;
+use state::Check;
+use state::Driver;
+use state::EndpointConfig;
+use state::EndpointRequest;
+use state::EndpointType;
+use state::Refusal;
 
 pub enum NewAnswer {
     Refused(Refusal),
@@ -179,7 +186,8 @@ fn empty(memory: u32, capacity: u32, used: u32) -> Driver
 
 // A driver whose memory is the `length` bytes from `address` on.
 pub fn new(address: u32, length: u32) -> NewResult
-    ensures { λ r. ⌜ r ≡ newResult address length ⌝ }
+    ensures result { λ r. ⌜ r ≡ newResult address length ⌝ }
+    ensures number { λ r. ⌜ newNumber (r .answer) ≡ checkNumber (newCheck address length) ⌝ }
 {
     let check = new_check(address, length);
     match check {
@@ -239,7 +247,8 @@ fn place(driver: Driver, incoming: bool, request: EndpointRequest) -> AllocateRe
 
 // An endpoint of the given direction.
 pub fn allocate(driver: Driver, incoming: bool, request: EndpointRequest) -> AllocateResult
-    ensures { λ r. ⌜ r ≡ allocateResult driver incoming request ⌝ }
+    ensures result { λ r. ⌜ r ≡ allocateResult driver incoming request ⌝ }
+    ensures numbers { λ r. ⌜ allocateNumbers (r .answer) ≡ numbersFor (allocateCheck driver incoming request) driver incoming request ⌝ }
 {
     let check = allocate_check(driver, incoming, request);
     match check {

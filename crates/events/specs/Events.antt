@@ -1,9 +1,11 @@
 -- What raising an event and asking for one do to the byte of pending events, and what they answer.
 -- Assumes nothing.
 use Prim.Native.Nat.{ℕ, _+_, _-_}
-use mathlib.Core.Bool.{Bool, _&&_, _||_, cond}
+use mathlib.Core.Bool.{Bool, true, false, _&&_, _||_, cond}
+use mathlib.Core.Path.{_≡_, refl}
 use mathlib.Core.List.{List, [], _∷_}
 use lib.Dec.{eqb}
+use Rattle.state.specs.Numbers.{refusalNumber}
 use Rattle.state.specs.declared.Refusal.the-variants as refusal
 use Rattle.events.specs.declared.Event.{Event}
 use Rattle.events.specs.declared.Event.the-variants as event
@@ -50,6 +52,11 @@ raiseAnswer e v =
     (cond (eventb v) raising.Raised (raising.Refused refusal.OutOfRange))
     (raising.Refused refusal.Unsound)
 
+-- the number of an answer: 0 for an event raised, else the refusal's
+abbrev pub raiseNumber : RaiseAnswer → ℕ
+raiseNumber raising.Raised = 0
+raiseNumber (raising.Refused r) = refusalNumber r
+
 -- a refused call leaves the byte alone
 abbrev pub raiseEvents : ℕ → ℕ → ℕ
 raiseEvents e v = cond (eventsSoundb e && eventb v) (raised e v) e
@@ -66,6 +73,27 @@ firstPending e (v ∷ vs) = cond (pendingb e (eventNumber v)) (polling.Event v) 
 -- refusal 26, or the pending event of highest precedence
 abbrev pub pollAnswer : ℕ → PollAnswer
 pollAnswer e = cond (eventsSoundb e) (firstPending e precedence) (polling.Refused refusal.Unsound)
+
+-- the numbers of an answer: the refusal's, or 0 and the event's, which is 0 where none is pending
+abbrev pub pollNumbers : PollAnswer → List ℕ
+pollNumbers (polling.Refused r) = refusalNumber r ∷ []
+pollNumbers polling.Nothing = 0 ∷ 0 ∷ []
+pollNumbers (polling.Event v) = 0 ∷ eventNumber v ∷ []
+
+abbrev pub firstNumber : ℕ → List Event → ℕ
+firstNumber e [] = 0
+firstNumber e (v ∷ vs) = cond (pendingb e (eventNumber v)) (eventNumber v) (firstNumber e vs)
+
+pub first-numbers : (e : ℕ) (vs : List Event) → pollNumbers (firstPending e vs) ≡ (0 ∷ firstNumber e vs ∷ [])
+first-numbers e [] = refl
+first-numbers e (v ∷ vs) = go (pendingb e (eventNumber v)) (first-numbers e vs)
+  where
+    go :
+        (b : Bool) →
+        pollNumbers (firstPending e vs) ≡ (0 ∷ firstNumber e vs ∷ []) →
+        pollNumbers (cond b (polling.Event v) (firstPending e vs)) ≡ (0 ∷ cond b (eventNumber v) (firstNumber e vs) ∷ [])
+    go true further = refl
+    go false further = further
 
 -- the byte once an answer was given: an event that was given is cleared
 abbrev pub answered : ℕ → PollAnswer → ℕ

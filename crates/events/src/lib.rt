@@ -1,7 +1,8 @@
 // The pending events (reference: `raise` and `poll` of device.rs).
 ghost use Prim.Native.Nat.{_<_};
 ghost use mathlib.Core.Path.{_≡_};
-ghost use mathlib.Core.Bool.{true};
+ghost use mathlib.Core.Bool.{true, cond};
+ghost use mathlib.Core.List.{[], _∷_};
 ghost use Rattle.events.specs.Pending.{pendingb, eventsSoundb};
 ghost use Rattle.events.specs.Events.{
   eventNumber,
@@ -11,10 +12,13 @@ ghost use Rattle.events.specs.Events.{
   onlyReset,
   raised,
   raiseAnswer,
+  raiseNumber,
   raiseEvents,
   precedence,
   firstPending,
+  firstNumber,
   pollAnswer,
+  pollNumbers,
   answered,
   pollEvents,
 };
@@ -139,6 +143,7 @@ fn after_raise(events: u8, event: u8) -> u8
 
 pub fn raise(events: Events, event: u8) -> RaiseResult
     ensures answer { λ r. ⌜ r .answer ≡ raiseAnswer (events .events) event ⌝ }
+    ensures number { λ r. ⌜ raiseNumber (r .answer) ≡ cond (eventsSoundb (events .events)) (cond (eventb event) 0 11) 26 ⌝ }
     ensures byte { λ r. ⌜ r .events .events ≡ raiseEvents (events .events) event ⌝ }
 {
     let sound = events_sound(events);
@@ -199,6 +204,7 @@ fn after_answer(events: u8, answer: PollAnswer) -> u8
 
 pub fn poll(events: Events) -> PollResult
     ensures answer { λ r. ⌜ r .answer ≡ pollAnswer (events .events) ⌝ }
+    ensures numbers { λ r. ⌜ pollNumbers (r .answer) ≡ cond (eventsSoundb (events .events)) (0 ∷ firstNumber (events .events) precedence ∷ []) (26 ∷ []) ⌝ }
     ensures byte { λ r. ⌜ r .events .events ≡ pollEvents (events .events) ⌝ }
 {
     let sound = events_sound(events);

@@ -79,8 +79,10 @@ off-sound powered i configured k t y hk ht = go (ltb i 2) refl
   where
     off : Slot
     off = record { configured = configured; config = k; enabled = false; stalled = false; phase = Idle; transfer = t; tally = y }
+
     parts : useb powered i off ≡ true → transferb i off ≡ true → slotb powered i off ≡ true
     parts hu hm = sym (slot-parts powered i off) ∙ and-both (useb powered i off && configb i configured k) (transferb i off) (and-both (useb powered i off) (configb i configured k) hu hk) hm
+
     go : (b : Bool) → ltb i 2 ≡ b → slotb powered i off ≡ true
     go true e = parts (rw e) (rw e)
     go false e = parts (rw e) (sym (transfer-calm i off e refl) ∙ (rw e at ht))

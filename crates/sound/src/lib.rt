@@ -2,7 +2,12 @@
 ghost use mathlib.Core.Path.{_≡_};
 ghost use Rattle.sound.specs.Clauses.{inRam, aligned, multiple};
 ghost use Rattle.sound.specs.Sound.{soundb, driverSoundb, configb, useb, transferb, outb, busyClausesb, slotb, awaitedb, ownb, memoryb, slotsb, allocationsb};
-use state::{Awaited, Driver, EndpointConfig, Events, Slot, State};
+use state::Awaited;
+use state::Driver;
+use state::EndpointConfig;
+use state::Events;
+use state::Slot;
+use state::State;
 
 // RAM is 0x200A0000 up to, not including, 0x20180000. The sum is taken in 64 bits, so that it can't wrap.
 pub fn in_ram(address: u32, length: u32) -> bool
@@ -40,7 +45,8 @@ fn config_sound(i: usize, configured: bool, config: EndpointConfig) -> bool
         let inside = in_ram(address, size);
         let even = is_aligned(address);
         let whole = is_multiple(size, m);
-        return (number == i) & (((1 <= m) & (m <= 1024)) & (inside & (even & ((0 < size) & whole))));
+        return (number == i)
+            & (((1 <= m) & (m <= 1024)) & (inside & (even & ((0 < size) & whole))));
     }
     true
 }
@@ -138,7 +144,8 @@ fn own_sound(state: State, events: Events) -> bool
     let apart = events::events_sound(events);
     let awaited = state.awaited;
     let asked = awaited_sound(state.powered, awaited);
-    ((state.ep0_address == 0) | inside) & (apart & ((!state.has_address | (state.address <= 127)) & ((state.tx_seq <= 31) & asked)))
+    ((state.ep0_address == 0) | inside)
+        & (apart & ((!state.has_address | (state.address <= 127)) & ((state.tx_seq <= 31) & asked)))
 }
 
 pub fn sound(state: State, events: Events) -> bool

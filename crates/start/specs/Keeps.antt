@@ -5,7 +5,7 @@ use mathlib.Core.Bool.{Bool, true, false, _&&_, _||_, not, or-true}
 use mathlib.Core.List.{List}
 use mathlib.Core.Path.{_≡_, refl, sym, _∙_}
 use native.Mathlib.Omega.{arith}
-use borrow.Author.Tests.{ltb-true, ltb-false, eqb-true, not-false}
+use borrow.Author.Tests.{ltb-true, ltb-false, le-leb, eqb-true, not-false}
 use lib.Dec.{eqb, leb, ltb}
 use lib.ListN.{length, getD, List·getD-eq-default}
 use Rattle.state.specs.declared.Slot.{Slot}
@@ -15,6 +15,7 @@ use Rattle.state.specs.declared.Driver.{Driver}
 use Rattle.state.specs.declared.Check.{Check}
 use Rattle.state.specs.declared.Check.the-variants.{Fits, Refused}
 use Rattle.state.specs.Fresh.{freshSlot, slotAt, allocationAt}
+use Rattle.state.specs.Tally.{KeepsAccount, reset-keeps}
 use Rattle.state.specs.Awaiting.{awaitingb, stageNumber}
 use Rattle.state.specs.Refusals.{none-due, not-due}
 use Rattle.state.specs.Each.{every-make, and-left, and-right, and-both, change, change-at, change-length}
@@ -62,12 +63,12 @@ slot-kept s e d a i h = go (ltb i (length (s .endpoints))) refl
   where
     x : Slot
     x = slotAt s i
+
     go : (b : Bool) → ltb i (length (s .endpoints)) ≡ b → slotb false i (getD (startedSlots d 16 (s .endpoints)) i freshSlot) ≡ true
     go true l =
-      rw (started-at d (s .endpoints) i h (ltb-true _ _ l))
-      (off-sound false i (allocationAt d i .configured) (allocationAt d i .config) (x .transfer) _ (a .driver .configs i h) (progress-within (s .powered) i x (slot-sound s e (a .sound) i h)))
+        rw (started-at d (s .endpoints) i h (ltb-true _ _ l))
+        (off-sound false i (allocationAt d i .configured) (allocationAt d i .config) (x .transfer) _ (a .driver .configs i h) (progress-within (s .powered) i x (slot-sound s e (a .sound) i h)))
     go false l = rw (started-past d (s .endpoints) i (ltb-false _ _ l)) (fresh-slot-sound false i)
-
 
 own-kept : (s : State) (e : Events) (d : Driver) → Accepted s e d → ownb (startedState s d) (record { events = power }) ≡ true
 unfolding ownb
@@ -92,3 +93,19 @@ start-keeps-sound s e d size h = go (startCheck s e d size) refl
     go : (c : Check) → startCheck s e d size ≡ c → soundb (startAt c s e d .state) (startAt c s e d .events) ≡ true
     go Fits q = let a = accepted s e d size q in sound-is (startedState s d) (record { events = power }) (slot-kept s e d a) (own-kept s e d a)
     go (Refused r) q = h
+
+started-account : (d : Driver) (i : ℕ) (x : Slot) → 2 ≤ i → KeepsAccount x (startedSlot d i x)
+started-account d i x h = rw (le-leb 2 i h) (let k = reset-keeps x false in record { begun = k .begun; same = k .same })
+
+unmoved : (x : Slot) → KeepsAccount x x
+unmoved x = record { begun = refl; same = refl }
+
+-- A start leaves begun as it is, and counts what it cuts.
+pub start-keeps-account : (s : State) (e : Events) (d : Driver) (size i : ℕ) → 2 ≤ i → i < 16 → KeepsAccount (slotAt s i) (slotAt (startResult s e d size .state) i)
+unfolding startResult
+start-keeps-account s e d size i h b = go (startCheck s e d size) (ltb i (length (s .endpoints))) refl
+  where
+    go : (c : Check) (t : Bool) → ltb i (length (s .endpoints)) ≡ t → KeepsAccount (slotAt s i) (slotAt (startAt c s e d .state) i)
+    go (Refused r) t q = unmoved (slotAt s i)
+    go Fits true q = rw (started-at d (s .endpoints) i b (ltb-true _ _ q)) (started-account d i (slotAt s i) h)
+    go Fits false q = rw (started-past d (s .endpoints) i (ltb-false _ _ q), List·getD-eq-default (s .endpoints) freshSlot (ltb-false _ _ q)) (unmoved freshSlot)

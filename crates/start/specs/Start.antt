@@ -1,7 +1,7 @@
 -- Starting a driver (reference: `start` of device.rs).
 -- Assumes nothing.
 use Prim.Native.Nat.{ℕ, _+_}
-use mathlib.Core.Path.{_≡_}
+use mathlib.Core.Path.{_≡_, refl}
 use mathlib.Core.Bool.{Bool, true, false, _&&_, not}
 use mathlib.Core.List.{List, [], _∷_}
 use lib.Dec.{eqb, leb}
@@ -17,11 +17,13 @@ use Rattle.state.specs.declared.Check.{Check}
 use Rattle.state.specs.declared.Check.the-variants.{Fits, Refused}
 use Rattle.state.specs.Slots.{resetSlot}
 use Rattle.state.specs.Fresh.{freshSlot, slotAt, allocationAt}
+use Rattle.state.specs.Numbers.{refusalNumber, checkNumber}
 use Rattle.state.specs.Awaiting.{awaitingb}
 use Rattle.state.specs.Refusals.{Due, _if_, firstDue}
 use Rattle.state.specs.Each.{change, change-none, change-next}
 use Rattle.events.specs.Pending.{power}
 use Rattle.sound.specs.Sound.{soundb, driverSoundb}
+use Rattle.start.specs.declared.StartAnswer.{StartAnswer}
 use Rattle.start.specs.declared.StartAnswer.the-variants as start
 use Rattle.start.specs.declared.StartResult.{StartResult}
 
@@ -116,3 +118,21 @@ startAt (Refused r) s e d = record { answer = start.Refused r; state = s; events
 
 unfoldable pub startResult : State → Events → Driver → ℕ → StartResult
 startResult s e d size = startAt (startCheck s e d size) s e d
+
+-- the number of an answer: 0 for a driver started, else the refusal's
+abbrev pub startNumber : StartAnswer → ℕ
+startNumber start.Started = 0
+startNumber (start.Refused r) = refusalNumber r
+
+start-number : (s : State) (e : Events) (d : Driver) (size : ℕ) → startNumber (startResult s e d size .answer) ≡ checkNumber (startCheck s e d size)
+unfolding startResult
+start-number s e d size = go (startCheck s e d size)
+  where
+    go : (c : Check) → startNumber (startAt c s e d .answer) ≡ checkNumber c
+    go Fits = refl
+    go (Refused r) = refl
+
+-- an answer that is right has the right number
+pub start-told : (r : StartResult) (s : State) (e : Events) (d : Driver) (size : ℕ) → r ≡ startResult s e d size
+    → (r ≡ startResult s e d size) × (startNumber (r .answer) ≡ checkNumber (startCheck s e d size))
+start-told r s e d size q = (q, rw q (start-number s e d size))

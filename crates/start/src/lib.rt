@@ -1,8 +1,15 @@
 // Starting a driver (reference: `start` of device.rs).
 ghost use mathlib.Core.Path.{_≡_};
 ghost use Prim.Native.Nat.{_<_};
-ghost use Rattle.start.specs.Start.{configuredSlot, startedSlot, startedSlots, withSlots, withMemory, startCheck, startResult};
-use state::{Allocation, Check, Driver, Events, Refusal, Slot, State};
+ghost use Rattle.state.specs.Numbers.{checkNumber};
+ghost use Rattle.start.specs.Start.{configuredSlot, startedSlot, startedSlots, withSlots, withMemory, startCheck, startResult, startNumber};
+use state::Allocation;
+use state::Check;
+use state::Driver;
+use state::Events;
+use state::Refusal;
+use state::Slot;
+use state::State;
 
 pub enum StartAnswer {
     Refused(Refusal),
@@ -72,8 +79,14 @@ fn start_check(state: State, events: Events, driver: Driver, size: u16) -> Check
 }
 
 // The state takes over the driver's layout and memory. Transfers in hand are cut; the device is off until it is powered.
-pub fn start(state: State, events: Events, driver: Driver, control_max_packet_size: u16) -> StartResult
-    ensures { λ r. ⌜ r ≡ startResult state events driver «control_max_packet_size» ⌝ }
+pub fn start(
+    state: State,
+    events: Events,
+    driver: Driver,
+    control_max_packet_size: u16,
+) -> StartResult
+    ensures result { λ r. ⌜ r ≡ startResult state events driver «control_max_packet_size» ⌝ }
+    ensures number { λ r. ⌜ startNumber (r .answer) ≡ checkNumber (startCheck state events driver «control_max_packet_size») ⌝ }
 {
     let check = start_check(state, events, driver, control_max_packet_size);
     match check {

@@ -45,15 +45,15 @@ nothingAwaited =
     record {
       stage = Nothing;
       flags =
-        record {
-          «tx_lmp» = false;
-          «rx_lmp» = false;
-          «rx_lmp_tout» = false;
-          «state_chg» = false;
-          «warm_rst» = false;
-          «term_pres» = false;
-          «rx_set_fc» = false;
-        };
+          record {
+            «tx_lmp» = false;
+            «rx_lmp» = false;
+            «rx_lmp_tout» = false;
+            «state_chg» = false;
+            «warm_rst» = false;
+            «term_pres» = false;
+            «rx_set_fc» = false;
+          };
       «link_state» = U0;
       endpoint = 0;
       packets = 0;

@@ -5,6 +5,8 @@ use mathlib.Core.Bool.{Bool, true}
 use lib.Dec.{leb}
 use Rattle.state.specs.declared.Refusal.{Refusal}
 use Rattle.state.specs.declared.Refusal.the-variants as refusal
+use Rattle.state.specs.declared.Check.{Check}
+use Rattle.state.specs.declared.Check.the-variants as check
 use Rattle.state.specs.declared.Reading.{Reading}
 use Rattle.state.specs.declared.Reading.the-variants as reading
 
@@ -32,6 +34,11 @@ refusalNumber refusal.InHand = 23
 refusalNumber refusal.OutOfTurn = 24
 refusalNumber refusal.NotSuspended = 25
 refusalNumber refusal.Unsound = 26
+
+-- 0 where a call isn't refused
+abbrev pub checkNumber : Check → ℕ
+checkNumber check.Fits = 0
+checkNumber (check.Refused r) = refusalNumber r
 
 -- refusal 11: endpoint 0–15, EP0 length 0–512, sequence 0–31, packets 0–255, last length 0–65535
 abbrev pub readingInRange : Reading → Bool

@@ -9,6 +9,7 @@ ghost use Rattle.state.specs.Refusals.{firstOf};
 ghost use Rattle.state.specs.Numbers.{refusalNumber, readingInRange};
 
 pub const SLOTS: usize = 16;
+
 pub const EP0_SIZE: u32 = 512;
 
 pub enum EndpointType {
@@ -188,8 +189,11 @@ pub struct Events {
 }
 
 pub const RESET: u8 = 1;
+
 pub const SUSPEND: u8 = 2;
+
 pub const RESUME: u8 = 4;
+
 pub const POWER: u8 = 8;
 
 // What is allocated for a slot.

@@ -1,6 +1,6 @@
 use borrow.Author.Needs.{needs}
 use mathlib.Core.Path.{_≡_, sym, _∙_}
-use Rattle.allocate.specs.Allocate.{allocateResult, placeable}
+use Rattle.allocate.specs.Allocate.{allocateResult, placeable, allocate-told}
 use Rattle.allocate.proofs.allocate.Statement.{statement}
 use Rattle.allocate.proofs.allocate.Tie as tie
 use Rattle.allocate.proofs.allocate.Reads as reads
@@ -27,16 +27,16 @@ enum-known-check c = search needs
 -- src/lib.rt:241:1
 returns : tie.Need-returns
 unfolding allocateResult
-returns c = 
+returns c =
     let k = c .before .before .before in
-    rw (sym (k .allocate-check .ensures) ∙ c .before .enum-told .given .1) (c .place .ensures)
+    allocate-told _ _ _ _ (rw (sym (k .allocate-check .ensures) ∙ c .before .enum-told .given .1) (c .place .ensures))
 
 -- src/lib.rt:241:1
 returns-2 : tie.Need-returns-2
 unfolding allocateResult
-returns-2 c = 
+returns-2 c =
     let t = c .before in
-    rw (sym (t .before .before .allocate-check .ensures) ∙ t .check .given .1)
+    allocate-told _ _ _ _ (rw (sym (t .before .before .allocate-check .ensures) ∙ t .check .given .1))
 
 pub allocate-spec : {M : Type 1} → statement M
 allocate-spec =

@@ -1,7 +1,7 @@
 use borrow.Author.Needs.{needs}
 use native.Mathlib.Omega.{arith}
 use mathlib.Core.Path.{_≡_, sym, _∙_}
-use Rattle.allocate.specs.Allocate.{newResult, new-start}
+use Rattle.allocate.specs.Allocate.{newResult, new-start, new-told}
 use Rattle.allocate.proofs.new.Statement.{statement}
 use Rattle.allocate.proofs.new.Tie as tie
 use Rattle.allocate.proofs.new.Reads as reads
@@ -25,7 +25,7 @@ up4-of-requires c κs = search needs
 
 -- src/lib.rt:187:26
 cast-memory : tie.Need-cast-memory
-cast-memory c = 
+cast-memory c =
     let k = c .before .before .before in
     omega (arith, c .up4-of .ensures, new-start _ _ (sym (k .new-check .ensures) ∙ c .before .enum-told .given .1))
 
@@ -48,17 +48,17 @@ empty-requires-2 c κs = search needs
 -- src/lib.rt:181:1
 returns : tie.Need-returns
 unfolding newResult
-returns c = 
+returns c =
     let u = c .before .before in
     let k = u .before .before .before in
-    rw (sym (k .new-check .ensures) ∙ u .before .enum-told .given .1, c .empty .ensures, c .before .capacity-of .ensures, u .up4-of .ensures)
+    new-told _ _ _ (rw (sym (k .new-check .ensures) ∙ u .before .enum-told .given .1, c .empty .ensures, c .before .capacity-of .ensures, u .up4-of .ensures))
 
 -- src/lib.rt:181:1
 returns-2 : tie.Need-returns-2
 unfolding newResult
-returns-2 c = 
+returns-2 c =
     let t = c .before .before in
-    rw (sym (t .before .before .new-check .ensures) ∙ t .check .given .1, c .empty2 .ensures)
+    new-told _ _ _ (rw (sym (t .before .before .new-check .ensures) ∙ t .check .given .1, c .empty2 .ensures))
 
 pub new-spec : {M : Type 1} → statement M
 new-spec =

@@ -58,7 +58,7 @@ add-d c = search needs
 -- src/lib.rt:206:1
 returns : tie.Need-returns
 unfolding placed
-returns c = 
+returns c =
     let u = c .before .before .before in
     rw (c .slot-number .ensures, c .before .before .size-of .ensures, u .up4-of .ensures, u .before .free-endpoint .ensures)
 

@@ -2,6 +2,7 @@
 use mathlib.Core.Path.{_≡_, sym, _∙_}
 use mathlib.Core.Bool.{true, false}
 use Rattle.events.specs.Pending.{eventsSoundb}
+use Rattle.events.specs.Events.{precedence, first-numbers}
 use borrow.Author.Needs.{needs}
 use borrow.Author.Tests.{not-true, not-false}
 use Rattle.events.proofs.poll.Statement.{statement}
@@ -17,7 +18,7 @@ events-sound-requires : tie.Need-events-sound-requires
 events-sound-requires c κs = search needs
 
 returns : tie.Need-returns
-returns c = let u = unsound c in (rw u, rw u)
+returns c = let u = unsound c in (rw u, (rw u, rw u))
 
 first-pending-requires : tie.Need-first-pending-requires
 first-pending-requires c κs = search needs
@@ -29,7 +30,7 @@ returns-2 : tie.Need-returns-2
 returns-2 c =
     let f = c .before .first-pending .ensures in
     let s = sound (c .before .before) in
-    (rw s f, rw (s, ← f) (c .after-answer .ensures))
+    (rw s f, (rw (s, f) (first-numbers (c .before .before .before .before .args .events .events) precedence), rw (s, ← f) (c .after-answer .ensures)))
 
 pub poll-spec : {M : Type 1} → statement M
 poll-spec =

@@ -21,7 +21,7 @@ events-sound-requires : tie.Need-events-sound-requires
 events-sound-requires c κs = search needs
 
 returns : tie.Need-returns
-returns c = let u = unsound c in (rw u, rw u)
+returns c = let u = unsound c in (rw u, (rw u, rw u))
 
 is-event-requires : tie.Need-is-event-requires
 is-event-requires c κs = search needs
@@ -30,7 +30,7 @@ returns-2 : tie.Need-returns-2
 returns-2 c =
     let s = sound (c .before .before) in
     let u = sym (c .before .is-event .ensures) ∙ not-true _ (c .if2 .taken) in
-    (rw (s, u), rw (s, u))
+    (rw (s, u), (rw (s, u), rw (s, u)))
 
 after-raise-requires : tie.Need-after-raise-requires
 after-raise-requires c κs = known c
@@ -39,7 +39,7 @@ returns-3 : tie.Need-returns-3
 returns-3 c =
     let s = sound (c .before .before .before) in
     let k = known (c .before) in
-    (rw (s, k), rw (s, k) (c .after-raise .ensures))
+    (rw (s, k), (rw (s, k), rw (s, k) (c .after-raise .ensures)))
 
 pub raise-spec : {M : Type 1} → statement M
 raise-spec =

@@ -19,7 +19,7 @@ is-chain-stage-requires c κs = search needs
 -- src/lib.rt:131:1
 returns : tie.Need-returns
 unfolding awaitedb
-returns c = 
+returns c =
     let e = c .before .before .args .awaited .endpoint in
     rw (c .before .is-awaiting .ensures, c .is-chain-stage .ensures, and-true)
 

@@ -22,7 +22,7 @@ is-aligned-requires c κs = search needs
 -- src/lib.rt:76:9
 returns : tie.Need-returns
 unfolding busyClausesb
-returns c = 
+returns c =
     let x = c .before .before .before .before .args .x in
     rw (c .before .before .in-ram .ensures, c .before .is-aligned .ensures, eq-eqb _ _ (c .if1 .taken), and-true (aligned (x .transfer .address)))
 
@@ -37,7 +37,7 @@ out-sound-requires c κs = search needs
 -- src/lib.rt:69:1
 returns-2 : tie.Need-returns-2
 unfolding busyClausesb
-returns-2 c = 
+returns-2 c =
     let p = c .before .before .before in
     rw (p .before .in-ram .ensures, p .is-aligned .ensures, c .out-sound .ensures, ne-eqb _ _ (c .before .before .if1 .left))
 

@@ -36,7 +36,7 @@ is-multiple-requires c κs = search needs
 -- src/lib.rt:43:9
 returns : tie.Need-returns
 unfolding configb
-returns c = 
+returns c =
     let p = c .before .before .before .before in
     let k = p .before .before .args .config in
     rw (p .before .if1 .taken, p .slot-number .ensures, c .before .before .in-ram .ensures, c .before .is-aligned .ensures, c .is-multiple .ensures, and-true (ltb 0 (k .buffer .size) && multiple (k .buffer .size) (k .«max_packet_size»)))

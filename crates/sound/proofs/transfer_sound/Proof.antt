@@ -25,7 +25,7 @@ busy-sound-requires c κs = search needs
 
 -- src/lib.rt:93:9
 returns-2 : tie.Need-returns-2
-returns-2 c = 
+returns-2 c =
     let p = c .before .before in
     rw (c .busy-sound .ensures) (transfer-busy _ _ (le-ltb _ _ (p .before .before .if1 .left)) (sym (p .is-busy .ensures) ∙ c .before .if2 .taken))
 

@@ -1,6 +1,6 @@
 use borrow.Author.Needs.{needs}
 use mathlib.Core.Path.{sym, _∙_}
-use Rattle.start.specs.Start.{startResult}
+use Rattle.start.specs.Start.{startResult, start-told}
 use Rattle.start.proofs.start.Statement.{statement}
 use Rattle.start.proofs.start.Tie as tie
 use Rattle.start.proofs.start.Reads as reads
@@ -29,14 +29,14 @@ returns : tie.Need-returns
 unfolding startResult
 returns c =
     let t = c .before in
-    rw (sym (t .before .before .start-check .ensures) ∙ t .enum-told .given .1, c .start-slots .ensures)
+    start-told _ _ _ _ _ (rw (sym (t .before .before .start-check .ensures) ∙ t .enum-told .given .1, c .start-slots .ensures))
 
 -- src/lib.rt:75:1
 returns-2 : tie.Need-returns-2
 unfolding startResult
 returns-2 c =
     let t = c .before in
-    rw (sym (t .before .before .start-check .ensures) ∙ t .check .given .1)
+    start-told _ _ _ _ _ (rw (sym (t .before .before .start-check .ensures) ∙ t .check .given .1))
 
 pub start-spec : {M : Type 1} → statement M
 start-spec =

@@ -36,7 +36,7 @@ first-requires-3 c κs = search needs
 -- src/lib.rt:61:1
 returns : tie.Need-returns
 unfolding startCheck
-returns c = 
+returns c =
     let a = c .before .before .before in
     rw (c .first3 .ensures, c .before .first2 .ensures, c .before .before .first .ensures, a .is-awaiting .ensures, a .before .driver-sound .ensures, a .before .before .sound .ensures)
 
