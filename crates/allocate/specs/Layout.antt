@@ -1,6 +1,6 @@
 -- Where the buffers lie, after any list of requests to a new driver.
 -- Assumes nothing.
-use Prim.Native.Nat.{ℕ, zero, suc, _+_, _*_, _%_, _≤_, _<_}
+use Prim.Native.Nat.{ℕ, _+_, _*_, _%_, _≤_, _<_}
 use mathlib.Core.Bool.{Bool, true, false, _&&_, not}
 use mathlib.Core.List.{List, [], _∷_}
 use mathlib.Core.Logic.{_⊎_, inl, inr}
@@ -9,12 +9,11 @@ use native.Mathlib.Nat.{mul-mod-right, mul-le-mul}
 use native.Mathlib.Omega.{arith}
 use borrow.Author.Tests.{eqb-true, eqb-false, eq-eqb, leb-true, le-leb, lt-ltb, not-false, ltb-false}
 use lib.Dec.{eqb, leb, ltb}
-use lib.ListN.{length, length-replicate, getD-replicate, length-set, set}
+use lib.ListN.{length, length-replicate, getD-replicate, length-set}
 use lib.Seq.{getD-set-same, getD-set-other}
 use Rattle.state.specs.declared.EndpointType.{EndpointType}
 use Rattle.state.specs.declared.EndpointType.the-variants.{Control, Isochronous, Bulk, Interrupt}
 use Rattle.state.specs.declared.Buffer.{Buffer}
-use Rattle.state.specs.declared.EndpointConfig.{EndpointConfig}
 use Rattle.state.specs.declared.EndpointRequest.{EndpointRequest}
 use Rattle.state.specs.declared.Allocation.{Allocation}
 use Rattle.state.specs.declared.Driver.{Driver}
@@ -23,12 +22,12 @@ use Rattle.state.specs.declared.Check.the-variants.{Fits, Refused}
 use Rattle.state.specs.Slots.{slotNumber}
 use Rattle.state.specs.Fresh.{noAllocation, allocationAt}
 use Rattle.state.specs.Refusals.{none-due, not-due}
-use Rattle.state.specs.Each.{and-left, and-right, and-both, true-not-false}
-use Rattle.sound.specs.Clauses.{inRam, aligned, multiple}
+use Rattle.state.specs.Each.{and-left, and-right, true-not-false}
+use Rattle.sound.specs.Clauses.{inRam, aligned}
 use Rattle.sound.specs.Sound.{configb, driverSoundb}
 use Rattle.sound.specs.Facts.{InRam, in-ram, in-ram-is, DriverFacts, driver-is}
-use Rattle.allocate.specs.Rules.{up4, periodicFits, sizeFits, endpointFor, available, startFor, sizeFor, endFor, lowest-most, slot-small}
-use Rattle.allocate.specs.Allocate.{newDues, newCheck, newDriver, newResult, newAt, capacityOf, allocateCheck, allocateAt, allocateResult, configFor, driverWith, placed, Accepted, accepted}
+use Rattle.allocate.specs.Rules.{periodicFits, sizeFits, endpointFor, available, startFor, sizeFor, lowest-most, slot-small}
+use Rattle.allocate.specs.Allocate.{newDues, newCheck, newDriver, newResult, capacityOf, allocateCheck, allocateAt, allocateResult, configFor, driverWith, placed, Accepted, accepted}
 
 abbrev pub bufferAt : Driver → ℕ → Buffer
 bufferAt d i = allocationAt d i .config .buffer

@@ -1,7 +1,7 @@
 -- Document 01's starred edges: each row has what the definitions give, and what the paper says.
 -- Assumes nothing.
 use Prim.Native.Nat.{ℕ}
-use mathlib.Core.Bool.{Bool, true, false}
+use mathlib.Core.Bool.{true, false}
 use mathlib.Core.List.{List, [], _∷_, map}
 use mathlib.Core.Path.{_≡_, refl}
 use Rattle.state.specs.declared.EndpointType.{EndpointType}

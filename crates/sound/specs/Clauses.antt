@@ -1,7 +1,7 @@
 -- Refusal 26, clause by clause in document 01's words. A clause is true where its fault is absent.
 -- Assumes nothing.
 use Prim.Native.Nat.{ℕ, _+_, _%_}
-use mathlib.Core.Bool.{Bool, true, false, _&&_, _||_, not}
+use mathlib.Core.Bool.{Bool, _&&_, _||_, not}
 use mathlib.Core.List.{List, [], _∷_, _++_, map}
 use lib.Dec.{eqb, leb, ltb}
 use Rattle.state.specs.declared.EndpointConfig.{EndpointConfig}

@@ -4,7 +4,7 @@ use Prim.Native.Nat.{ℕ, _+_, _%_, _≤_, _<_}
 use mathlib.Core.Bool.{Bool, true, false, _&&_, _||_, or-true}
 use mathlib.Core.Path.{_≡_, refl, sym, _∙_}
 use borrow.Author.Tests.{leb-true, eqb-true, le-leb, eq-eqb}
-use lib.Dec.{leb, ltb, eqb}
+use lib.Dec.{leb, ltb}
 use native.Mathlib.Omega.{arith}
 use Rattle.state.specs.declared.EndpointConfig.{EndpointConfig}
 use Rattle.state.specs.declared.Phase.the-variants.{Idle}

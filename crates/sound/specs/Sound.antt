@@ -3,7 +3,7 @@
 use Prim.Native.Nat.{ℕ}
 use mathlib.Core.Bool.{Bool, true, false, _&&_, _||_, not, and-true}
 use lib.Dec.{eqb, leb, ltb}
-use mathlib.Core.List.{List, [], _∷_, _++_, map}
+use mathlib.Core.List.{_++_, map}
 use mathlib.Core.Path.{_≡_, refl, ap, sym, _∙_}
 use Rattle.state.specs.declared.EndpointConfig.{EndpointConfig}
 use Rattle.state.specs.declared.Slot.{Slot}

@@ -1,9 +1,9 @@
 -- A start keeps the state sound.
 -- Assumes nothing.
-use Prim.Native.Nat.{ℕ, _+_, _<_, _≤_}
+use Prim.Native.Nat.{ℕ, _<_, _≤_}
 use mathlib.Core.Bool.{Bool, true, false, _&&_, _||_, not, or-true}
 use mathlib.Core.List.{List}
-use mathlib.Core.Path.{_≡_, refl, sym, _∙_}
+use mathlib.Core.Path.{_≡_, refl, _∙_}
 use native.Mathlib.Omega.{arith}
 use borrow.Author.Tests.{ltb-true, ltb-false, le-leb, eqb-true, not-false}
 use lib.Dec.{eqb, leb, ltb}
@@ -18,11 +18,11 @@ use Rattle.state.specs.Fresh.{freshSlot, slotAt, allocationAt}
 use Rattle.state.specs.Tally.{KeepsAccount, reset-keeps}
 use Rattle.state.specs.Awaiting.{awaitingb, stageNumber}
 use Rattle.state.specs.Refusals.{none-due, not-due}
-use Rattle.state.specs.Each.{every-make, and-left, and-right, and-both, change, change-at, change-length}
+use Rattle.state.specs.Each.{and-left, and-right, change, change-at, change-length}
 use Rattle.events.specs.Pending.{power, eventsSoundb}
 use Rattle.sound.specs.Clauses.{ep0, inRam}
-use Rattle.sound.specs.Sound.{soundb, sound-parts, slotsb, slotb, slot-parts, useb, configb, transferb, ownb, driverSoundb}
-use Rattle.sound.specs.Facts.{InRam, in-ram-is, DriverFacts, driver-facts, off-sound, slot-sound, fresh-slot-sound, own-sound, sound-is}
+use Rattle.sound.specs.Sound.{soundb, slotb, slot-parts, useb, configb, transferb, ownb, driverSoundb}
+use Rattle.sound.specs.Facts.{in-ram-is, DriverFacts, driver-facts, off-sound, slot-sound, fresh-slot-sound, own-sound, sound-is}
 use Rattle.start.specs.Start.{startedSlot, startedSlots, startedState, startDues, startCheck, startAt, startResult}
 
 -- what a start that is accepted has

@@ -2,11 +2,10 @@
 -- Assumes nothing.
 use Prim.Native.Nat.{ℕ, _+_}
 use mathlib.Core.Path.{_≡_, refl}
-use mathlib.Core.Bool.{Bool, true, false, _&&_, not}
+use mathlib.Core.Bool.{false, _&&_, not}
 use mathlib.Core.List.{List, [], _∷_}
 use lib.Dec.{eqb, leb}
 use lib.ListN.{set}
-use Rattle.state.specs.declared.Phase.the-variants.{Idle}
 use Rattle.state.specs.declared.Slot.{Slot}
 use Rattle.state.specs.declared.Allocation.{Allocation}
 use Rattle.state.specs.declared.State.{State}

@@ -1,7 +1,6 @@
 -- The state before anything was done.
 -- Assumes nothing.
-use mathlib.Core.Bool.{true, false}
-use mathlib.Core.List.{List, []}
+use mathlib.Core.Bool.{false}
 use Prim.Native.Nat.{ℕ}
 use lib.ListN.{replicate, getD}
 use Rattle.state.specs.declared.EndpointType.the-variants.{Control}

@@ -1,7 +1,7 @@
 -- Which refusal a call gives where several apply: the first in document 01's sequence.
 -- Assumes nothing.
-use mathlib.Core.Bool.{Bool, true, false, cond}
-use mathlib.Core.List.{List, [], _∷_, _++_}
+use mathlib.Core.Bool.{Bool, true, false}
+use mathlib.Core.List.{List, [], _∷_}
 use mathlib.Core.Path.{_≡_, refl, subst}
 use Rattle.state.specs.declared.Refusal.{Refusal}
 use Rattle.state.specs.declared.Check.{Check}

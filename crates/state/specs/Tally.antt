@@ -6,8 +6,6 @@ use mathlib.Core.Path.{_≡_, refl}
 use native.Mathlib.Omega.{arith}
 use Rattle.ops.specs.Ops.{bit}
 use Rattle.state.specs.declared.Slot.{Slot}
-use Rattle.state.specs.declared.Phase.{Phase}
-use Rattle.state.specs.declared.Phase.the-variants.{Idle, Busy, Done}
 use Rattle.state.specs.Slots.{idleb, resetSlot}
 
 -- 1 while a transfer is busy or done and not taken, else 0

@@ -1,25 +1,19 @@
+-- `is_available`: the slot is one of the sixteen. Assumes nothing.
 use borrow.Author.Needs.{needs}
 use native.Mathlib.Omega.{arith}
 use Rattle.state.specs.Slots.{bit-small}
 use Rattle.allocate.proofs.is_available.Statement.{statement}
 use Rattle.allocate.proofs.is_available.Tie as tie
-use Rattle.allocate.proofs.is_available.Reads as reads
-use Rattle.allocate.proofs.is_available.Lts as lts
-use Rattle.state.proofs.slot_number.Reads as slot-number-reads
 
--- src/lib.rt:80:9
 slot-number-requires : tie.Need-slot-number-requires
 slot-number-requires c κs = search needs
 
--- src/lib.rt:81:13
 mul-a : tie.Need-mul-a
 mul-a c = omega (arith, c .slot-number .ensures, bit-small (c .before .args .incoming))
 
--- src/lib.rt:81:13
 element-copy-out-a : tie.Need-element-copy-out-a
 element-copy-out-a c = omega (arith, c .slot-number .ensures, bit-small (c .before .args .incoming))
 
--- src/lib.rt:76:1
 returns : tie.Need-returns
 returns c = rw (c .before .before .slot-number .ensures)
 

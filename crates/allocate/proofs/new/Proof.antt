@@ -1,51 +1,37 @@
+-- `new`: made or refused. Assumes nothing.
 use borrow.Author.Needs.{needs}
 use native.Mathlib.Omega.{arith}
-use mathlib.Core.Path.{_≡_, sym, _∙_}
+use mathlib.Core.Path.{sym, _∙_}
 use Rattle.allocate.specs.Allocate.{newResult, new-start, new-told}
 use Rattle.allocate.proofs.new.Statement.{statement}
 use Rattle.allocate.proofs.new.Tie as tie
-use Rattle.allocate.proofs.new.Reads as reads
-use Rattle.allocate.proofs.new.Lts as lts
-use Rattle.allocate.proofs.capacity_of.Reads as capacity-of-reads
-use Rattle.allocate.proofs.empty.Reads as empty-reads
-use Rattle.allocate.proofs.new_check.Reads as new-check-reads
-use Rattle.allocate.proofs.up4_of.Reads as up4-of-reads
 
--- src/lib.rt:184:9
 new-check-requires : tie.Need-new-check-requires
 new-check-requires c κs = search needs
 
--- src/lib.rt:187:26
 enum-told : tie.Need-enum-told
 enum-told c = search needs
 
--- src/lib.rt:187:26
 up4-of-requires : tie.Need-up4-of-requires
 up4-of-requires c κs = search needs
 
--- src/lib.rt:187:26
 cast-memory : tie.Need-cast-memory
 cast-memory c =
     let k = c .before .before .before in
     omega (arith, c .up4-of .ensures, new-start _ _ (sym (k .new-check .ensures) ∙ c .before .enum-told .given .1))
 
--- src/lib.rt:188:17
 capacity-of-requires : tie.Need-capacity-of-requires
 capacity-of-requires c κs = search needs
 
--- src/lib.rt:189:17
 empty-requires : tie.Need-empty-requires
 empty-requires c κs = search needs
 
--- src/lib.rt:195:24
 enum-known-check : tie.Need-enum-known-check
 enum-known-check c = search needs
 
--- src/lib.rt:196:17
 empty-requires-2 : tie.Need-empty-requires-2
 empty-requires-2 c κs = search needs
 
--- src/lib.rt:181:1
 returns : tie.Need-returns
 unfolding newResult
 returns c =
@@ -53,7 +39,6 @@ returns c =
     let k = u .before .before .before in
     new-told _ _ _ (rw (sym (k .new-check .ensures) ∙ u .before .enum-told .given .1, c .empty .ensures, c .before .capacity-of .ensures, u .up4-of .ensures))
 
--- src/lib.rt:181:1
 returns-2 : tie.Need-returns-2
 unfolding newResult
 returns-2 c =

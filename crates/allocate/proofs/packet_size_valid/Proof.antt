@@ -1,38 +1,29 @@
+-- `packet_size_valid`: a case for each kind. Assumes nothing.
 use borrow.Author.Needs.{needs}
 use Rattle.allocate.proofs.packet_size_valid.Statement.{statement}
 use Rattle.allocate.proofs.packet_size_valid.Tie as tie
-use Rattle.allocate.proofs.packet_size_valid.Reads as reads
-use Rattle.allocate.proofs.packet_size_valid.Lts as lts
 
--- src/lib.rt:56:34
 enum-told : tie.Need-enum-told
 enum-told c = search needs
 
--- src/lib.rt:57:39
 enum-told-2 : tie.Need-enum-told-2
 enum-told-2 c = search needs
 
--- src/lib.rt:58:31
 enum-told-3 : tie.Need-enum-told-3
 enum-told-3 c = search needs
 
--- src/lib.rt:59:37
 enum-told-4 : tie.Need-enum-told-4
 enum-told-4 c = search needs
 
--- src/lib.rt:52:1
 returns : tie.Need-returns
 returns c = search needs
 
--- src/lib.rt:52:1
 returns-2 : tie.Need-returns-2
 returns-2 c = rw (c .enum-told2 .given .1)
 
--- src/lib.rt:52:1
 returns-3 : tie.Need-returns-3
 returns-3 c = rw (c .enum-told3 .given .1)
 
--- src/lib.rt:52:1
 returns-4 : tie.Need-returns-4
 returns-4 c = rw (c .enum-told4 .given .1)
 

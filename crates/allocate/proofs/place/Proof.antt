@@ -1,43 +1,31 @@
+-- `place`: the endpoint that was found is one of 1 to 7. Assumes nothing.
 use borrow.Author.Needs.{needs}
 use native.Mathlib.Omega.{arith}
 use Prim.Native.Nat.{_<_}
 use Rattle.allocate.specs.Allocate.{placed}
-use Rattle.allocate.specs.Rules.{available, lowest, lowest-most}
+use Rattle.allocate.specs.Rules.{available, lowest-most}
 use Rattle.state.specs.Slots.{bit-small}
 use Rattle.allocate.proofs.place.Statement.{statement}
 use Rattle.allocate.proofs.place.Tie as tie
-use Rattle.allocate.proofs.place.Reads as reads
-use Rattle.allocate.proofs.place.Lts as lts
-use Rattle.allocate.proofs.free_endpoint.Reads as free-endpoint-reads
-use Rattle.allocate.proofs.size_of.Reads as size-of-reads
-use Rattle.allocate.proofs.up4_of.Reads as up4-of-reads
-use Rattle.state.proofs.slot_number.Reads as slot-number-reads
 
--- src/lib.rt:210:9
 free-endpoint-requires : tie.Need-free-endpoint-requires
 free-endpoint-requires c κs = search needs
 
--- src/lib.rt:211:17
 up4-of-requires : tie.Need-up4-of-requires
 up4-of-requires c κs = search needs
 
--- src/lib.rt:211:17
 cast-start : tie.Need-cast-start
 cast-start c = search needs
 
--- src/lib.rt:212:9
 size-of-requires : tie.Need-size-of-requires
 size-of-requires c κs = search needs
 
--- src/lib.rt:214:19
 add-address : tie.Need-add-address
 add-address c = search needs
 
--- src/lib.rt:227:9
 slot-number-requires : tie.Need-slot-number-requires
 slot-number-requires c κs = search needs
 
--- src/lib.rt:229:5
 -- the slot of the endpoint that was found
 slot-in : (c : tie.After-slot-number) → c .slot-number .result < 16
 slot-in c =
@@ -47,15 +35,12 @@ slot-in c =
 mul-t15 : tie.Need-mul-t15
 mul-t15 c = omega (arith, slot-in c)
 
--- src/lib.rt:229:5
 element-set-from-d : tie.Need-element-set-from-d
 element-set-from-d c = slot-in c
 
--- src/lib.rt:233:14
 add-d : tie.Need-add-d
 add-d c = search needs
 
--- src/lib.rt:206:1
 returns : tie.Need-returns
 unfolding placed
 returns c =

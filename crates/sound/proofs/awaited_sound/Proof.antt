@@ -1,22 +1,16 @@
+-- `awaited_sound`: the two clauses of the awaited reading. Assumes nothing.
 use borrow.Author.Needs.{needs}
 use mathlib.Core.Bool.{and-true}
 use Rattle.sound.specs.Sound.{awaitedb}
 use Rattle.sound.proofs.awaited_sound.Statement.{statement}
 use Rattle.sound.proofs.awaited_sound.Tie as tie
-use Rattle.sound.proofs.awaited_sound.Reads as reads
-use Rattle.sound.proofs.awaited_sound.Lts as lts
-use Rattle.state.proofs.is_awaiting.Reads as is-awaiting-reads
-use Rattle.state.proofs.is_chain_stage.Reads as is-chain-stage-reads
 
--- src/lib.rt:135:9
 is-awaiting-requires : tie.Need-is-awaiting-requires
 is-awaiting-requires c κs = search needs
 
--- src/lib.rt:136:9
 is-chain-stage-requires : tie.Need-is-chain-stage-requires
 is-chain-stage-requires c κs = search needs
 
--- src/lib.rt:131:1
 returns : tie.Need-returns
 unfolding awaitedb
 returns c =

@@ -1,40 +1,30 @@
+-- `busy_sound`: IN has two clauses, OUT five. Assumes nothing.
 use borrow.Author.Needs.{needs}
 use Rattle.sound.specs.Clauses.{aligned}
-use borrow.Author.Tests.{eq-eqb, ne-eqb, lt-ltb, le-ltb}
+use borrow.Author.Tests.{eq-eqb, ne-eqb}
 use mathlib.Core.Bool.{and-true}
 use Rattle.sound.specs.Sound.{busyClausesb}
 use Rattle.sound.proofs.busy_sound.Statement.{statement}
 use Rattle.sound.proofs.busy_sound.Tie as tie
-use Rattle.sound.proofs.busy_sound.Reads as reads
-use Rattle.sound.proofs.busy_sound.Lts as lts
-use Rattle.sound.proofs.in_ram.Reads as in-ram-reads
-use Rattle.sound.proofs.is_aligned.Reads as is-aligned-reads
-use Rattle.sound.proofs.out_sound.Reads as out-sound-reads
 
--- src/lib.rt:73:9
 in-ram-requires : tie.Need-in-ram-requires
 in-ram-requires c κs = search needs
 
--- src/lib.rt:74:9
 is-aligned-requires : tie.Need-is-aligned-requires
 is-aligned-requires c κs = search needs
 
--- src/lib.rt:76:9
 returns : tie.Need-returns
 unfolding busyClausesb
 returns c =
     let x = c .before .before .before .before .args .x in
     rw (c .before .before .in-ram .ensures, c .before .is-aligned .ensures, eq-eqb _ _ (c .if1 .taken), and-true (aligned (x .transfer .address)))
 
--- src/lib.rt:78:47
 cast-out-sound : tie.Need-cast-out-sound
 cast-out-sound c = search needs
 
--- src/lib.rt:78:9
 out-sound-requires : tie.Need-out-sound-requires
 out-sound-requires c κs = search needs
 
--- src/lib.rt:69:1
 returns-2 : tie.Need-returns-2
 unfolding busyClausesb
 returns-2 c =

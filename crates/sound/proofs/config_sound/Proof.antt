@@ -1,3 +1,4 @@
+-- `config_sound`: the five clauses of a configuration, or nothing to hold. Assumes nothing.
 use borrow.Author.Needs.{needs}
 use mathlib.Core.Bool.{_&&_}
 use lib.Dec.{ltb}
@@ -6,34 +7,22 @@ use mathlib.Core.Bool.{and-true}
 use Rattle.sound.specs.Sound.{configb}
 use Rattle.sound.proofs.config_sound.Statement.{statement}
 use Rattle.sound.proofs.config_sound.Tie as tie
-use Rattle.sound.proofs.config_sound.Reads as reads
-use Rattle.sound.proofs.config_sound.Lts as lts
-use Rattle.sound.proofs.in_ram.Reads as in-ram-reads
-use Rattle.sound.proofs.is_aligned.Reads as is-aligned-reads
-use Rattle.sound.proofs.is_multiple.Reads as is-multiple-reads
-use Rattle.state.proofs.slot_number.Reads as slot-number-reads
 
--- src/lib.rt:36:13
 slot-number-requires : tie.Need-slot-number-requires
 slot-number-requires c κs = search needs
 
--- src/lib.rt:37:17
 cast-m : tie.Need-cast-m
 cast-m c = search needs
 
--- src/lib.rt:40:13
 in-ram-requires : tie.Need-in-ram-requires
 in-ram-requires c κs = search needs
 
--- src/lib.rt:41:13
 is-aligned-requires : tie.Need-is-aligned-requires
 is-aligned-requires c κs = search needs
 
--- src/lib.rt:42:13
 is-multiple-requires : tie.Need-is-multiple-requires
 is-multiple-requires c κs = search needs
 
--- src/lib.rt:43:9
 returns : tie.Need-returns
 unfolding configb
 returns c =
@@ -41,7 +30,6 @@ returns c =
     let k = p .before .before .args .config in
     rw (p .before .if1 .taken, p .slot-number .ensures, c .before .before .in-ram .ensures, c .before .is-aligned .ensures, c .is-multiple .ensures, and-true (ltb 0 (k .buffer .size) && multiple (k .buffer .size) (k .«max_packet_size»)))
 
--- src/lib.rt:32:1
 returns-2 : tie.Need-returns-2
 unfolding configb
 returns-2 c = rw (c .if1 .left)

@@ -1,20 +1,15 @@
+-- `out_sound`: the three clauses of OUT. Assumes nothing.
 use borrow.Author.Needs.{needs}
 use Rattle.sound.specs.Sound.{outb}
 use Rattle.sound.proofs.out_sound.Statement.{statement}
 use Rattle.sound.proofs.out_sound.Tie as tie
-use Rattle.sound.proofs.out_sound.Reads as reads
-use Rattle.sound.proofs.out_sound.Lts as lts
-use Rattle.sound.proofs.is_multiple.Reads as is-multiple-reads
 
--- src/lib.rt:64:9
 is-multiple-requires : tie.Need-is-multiple-requires
 is-multiple-requires c κs = search needs
 
--- src/lib.rt:65:9
 is-multiple-requires-2 : tie.Need-is-multiple-requires-2
 is-multiple-requires-2 c κs = search needs
 
--- src/lib.rt:61:1
 returns : tie.Need-returns
 unfolding outb
 returns c = rw (c .before .is-multiple .ensures, c .is-multiple2 .ensures)

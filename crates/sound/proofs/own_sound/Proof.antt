@@ -1,26 +1,18 @@
+-- `own_sound`: the clauses of the state itself. Assumes nothing.
 use borrow.Author.Needs.{needs}
 use Rattle.sound.specs.Sound.{ownb, awaitedb}
 use Rattle.sound.proofs.own_sound.Statement.{statement}
 use Rattle.sound.proofs.own_sound.Tie as tie
-use Rattle.sound.proofs.own_sound.Reads as reads
-use Rattle.sound.proofs.own_sound.Lts as lts
-use Rattle.events.proofs.events_sound.Reads as events-sound-reads
-use Rattle.sound.proofs.awaited_sound.Reads as awaited-sound-reads
-use Rattle.sound.proofs.in_ram.Reads as in-ram-reads
 
--- src/lib.rt:137:9
 in-ram-requires : tie.Need-in-ram-requires
 in-ram-requires c κs = search needs
 
--- src/lib.rt:138:9
 events-sound-requires : tie.Need-events-sound-requires
 events-sound-requires c κs = search needs
 
--- src/lib.rt:140:9
 awaited-sound-requires : tie.Need-awaited-sound-requires
 awaited-sound-requires c κs = search needs
 
--- src/lib.rt:134:1
 returns : tie.Need-returns
 unfolding ownb awaitedb
 returns c =

@@ -1,23 +1,18 @@
+-- `use_sound`: EP0 is free of the four clauses. Assumes nothing.
 use borrow.Author.Needs.{needs}
-use borrow.Author.Tests.{eq-eqb, ne-eqb, lt-ltb, le-ltb}
+use borrow.Author.Tests.{lt-ltb, le-ltb}
 use mathlib.Core.Bool.{and-true}
 use Rattle.sound.specs.Sound.{useb}
 use Rattle.sound.proofs.use_sound.Statement.{statement}
 use Rattle.sound.proofs.use_sound.Tie as tie
-use Rattle.sound.proofs.use_sound.Reads as reads
-use Rattle.sound.proofs.use_sound.Lts as lts
-use Rattle.state.proofs.is_idle.Reads as is-idle-reads
 
--- src/lib.rt:53:9
 returns : tie.Need-returns
 unfolding useb
 returns c = rw (lt-ltb _ _ (c .if1 .taken))
 
--- src/lib.rt:56:9
 is-idle-requires : tie.Need-is-idle-requires
 is-idle-requires c κs = search needs
 
--- src/lib.rt:49:1
 returns-2 : tie.Need-returns-2
 unfolding useb
 returns-2 c = let p = c .before .before .before .before in rw (le-ltb _ _ (p .before .if1 .left), p .is-idle .ensures, and-true)

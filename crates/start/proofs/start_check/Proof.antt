@@ -1,39 +1,27 @@
+-- `start_check`: the refusals in their sequence. Assumes nothing.
 use borrow.Author.Needs.{needs}
 use Rattle.start.specs.Start.{startCheck}
 use Rattle.start.proofs.start_check.Statement.{statement}
 use Rattle.start.proofs.start_check.Tie as tie
-use Rattle.start.proofs.start_check.Reads as reads
-use Rattle.start.proofs.start_check.Lts as lts
-use Rattle.sound.proofs.driver_sound.Reads as driver-sound-reads
-use Rattle.sound.proofs.sound.Reads as sound-reads
-use Rattle.state.proofs.first.Reads as first-reads
-use Rattle.state.proofs.is_awaiting.Reads as is-awaiting-reads
 
--- src/lib.rt:66:9
 sound-requires : tie.Need-sound-requires
 sound-requires c κs = search needs
 
--- src/lib.rt:67:9
 driver-sound-requires : tie.Need-driver-sound-requires
 driver-sound-requires c κs = search needs
 
--- src/lib.rt:68:9
 is-awaiting-requires : tie.Need-is-awaiting-requires
 is-awaiting-requires c κs = search needs
 
--- src/lib.rt:69:9
 first-requires : tie.Need-first-requires
 first-requires c κs = search needs
 
--- src/lib.rt:70:9
 first-requires-2 : tie.Need-first-requires-2
 first-requires-2 c κs = search needs
 
--- src/lib.rt:71:5
 first-requires-3 : tie.Need-first-requires-3
 first-requires-3 c κs = search needs
 
--- src/lib.rt:61:1
 returns : tie.Need-returns
 unfolding startCheck
 returns c =

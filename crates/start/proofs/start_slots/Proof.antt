@@ -1,3 +1,4 @@
+-- `start_slots`: the slots so far are started. Assumes nothing.
 use borrow.Author.Needs.{needs}
 use native.Mathlib.Omega.{arith}
 use mathlib.Core.Path.{_≡_, sym}
@@ -5,9 +6,6 @@ use Prim.Native.Nat.{_≤_, _-_}
 use Rattle.start.specs.Start.{withSlots, startedSlots, started-none, started-next}
 use Rattle.start.proofs.start_slots.Statement.{statement}
 use Rattle.start.proofs.start_slots.Tie as tie
-use Rattle.start.proofs.start_slots.Reads as reads
-use Rattle.start.proofs.start_slots.Lts as lts
-use Rattle.start.proofs.start_slot.Reads as start-slot-reads
 
 abbrev Inv-loop : tie.InvT-loop
 Inv-loop driver state s₀ i₀ s i = (i ≤ 16) × (s ≡ withSlots state (startedSlots driver i (state .endpoints)))
@@ -15,45 +13,35 @@ Inv-loop driver state s₀ i₀ s i = (i ≤ 16) × (s ≡ withSlots state (star
 abbrev μ-loop : tie.MeasureT-loop
 μ-loop driver state s₀ i₀ s i = 16 - i
 
--- src/lib.rt:52:5
 loop-holds : tie.Need-loop-holds Inv-loop μ-loop
 loop-holds c = (search needs, sym (started-none (c .args .t1) (c .args .driver)))
 
--- src/lib.rt:53:17
 mul-x : tie.Need-mul-x Inv-loop μ-loop
 mul-x c = search needs
 
--- src/lib.rt:53:17
 element-copy-out-x : tie.Need-element-copy-out-x Inv-loop μ-loop
 element-copy-out-x c = search needs
 
--- src/lib.rt:54:13
 start-slot-requires : tie.Need-start-slot-requires Inv-loop μ-loop
 start-slot-requires c κs = search needs
 
--- src/lib.rt:55:9
 mul-y : tie.Need-mul-y Inv-loop μ-loop
 mul-y c = search needs
 
--- src/lib.rt:55:9
 element-set-from-y : tie.Need-element-set-from-y Inv-loop μ-loop
 element-set-from-y c = search needs
 
--- src/lib.rt:56:13
 add-i : tie.Need-add-i Inv-loop μ-loop
 add-i c = search needs
 
--- src/lib.rt:52:5
 loop-less : tie.Need-loop-less Inv-loop μ-loop
 loop-less c = search needs
 
--- src/lib.rt:52:5
 loop-again : tie.Need-loop-again Inv-loop μ-loop
 loop-again c =
     let l = c .before .before .before in
     (search needs, started-next (l .before .args .t1) (l .loop .s) (l .before .args .driver) (l .loop .i) (c .start-slot .result) (l .loop .inv .1) (c .start-slot .ensures))
 
--- src/lib.rt:47:1
 returns : tie.Need-returns Inv-loop μ-loop
 returns c =
     let e : c .before .loop .i ≡ 16 = omega arith in

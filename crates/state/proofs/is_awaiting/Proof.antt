@@ -1,15 +1,11 @@
+-- `is_awaiting`: by the number of the stage. Assumes nothing.
 use borrow.Author.Needs.{needs}
 use Rattle.state.proofs.is_awaiting.Statement.{statement}
 use Rattle.state.proofs.is_awaiting.Tie as tie
-use Rattle.state.proofs.is_awaiting.Reads as reads
-use Rattle.state.proofs.is_awaiting.Lts as lts
-use Rattle.state.proofs.stage_number.Reads as stage-number-reads
 
--- src/lib.rt:316:9
 stage-number-requires : tie.Need-stage-number-requires
 stage-number-requires c κs = search needs
 
--- src/lib.rt:313:1
 returns : tie.Need-returns
 returns c = cc
 

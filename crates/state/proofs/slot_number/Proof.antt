@@ -1,24 +1,19 @@
+-- `slot_number`: a flag adds 1 at most. Assumes nothing.
 use borrow.Author.Needs.{needs}
 use native.Mathlib.Omega.{arith}
 use Rattle.state.specs.Slots.{bit-small}
 use Rattle.state.proofs.slot_number.Statement.{statement}
 use Rattle.state.proofs.slot_number.Tie as tie
-use Rattle.state.proofs.slot_number.Reads as reads
-use Rattle.state.proofs.slot_number.Lts as lts
 
--- src/lib.rt:295:5
 mul-result : tie.Need-mul-result
 mul-result c = search needs
 
--- src/lib.rt:295:28
 cast-result : tie.Need-cast-result
 cast-result c = search needs
 
--- src/lib.rt:295:5
 add-result : tie.Need-add-result
 add-result c = omega (arith, bit-small (c .args .incoming))
 
--- src/lib.rt:292:1
 returns : tie.Need-returns
 returns c = search needs
 
