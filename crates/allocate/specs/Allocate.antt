@@ -11,13 +11,14 @@ use lib.ListN.{replicate, set}
 use Rattle.state.specs.declared.EndpointConfig.{EndpointConfig}
 use Rattle.state.specs.declared.EndpointRequest.{EndpointRequest}
 use Rattle.state.specs.declared.Driver.{Driver}
+use Rattle.state.specs.declared.Refusal.{Refusal}
 use Rattle.state.specs.declared.Refusal.the-variants.{MemoryOutsideRam, MemoryTooSmall, UnfitPacketSize, UnfitBurst, WrongDirection, NoFreeEndpoint, NoRoom, Unsound}
 use Rattle.state.specs.declared.Check.{Check}
 use Rattle.state.specs.declared.Check.the-variants.{Fits, Refused}
 use Rattle.state.specs.Slots.{slotNumber}
 use Rattle.state.specs.Fresh.{noAllocation}
 use Rattle.state.specs.Numbers.{refusalNumber, checkNumber}
-use Rattle.state.specs.Refusals.{Due, _if_, firstDue, none-due, not-due}
+use Rattle.state.specs.Refusals.{Due, _if_, firstDue, Bound, bound, none-due, not-due}
 use Rattle.sound.specs.Clauses.{inRam}
 use Rattle.sound.specs.Sound.{driverSoundb}
 use Rattle.sound.specs.Facts.{in-ram, DriverFacts, driver-facts}
@@ -188,3 +189,17 @@ pub placeable : (d : Driver) (incoming : Bool) (r : EndpointRequest) → allocat
 placeable d incoming r h =
     let a = accepted d incoming r h in
     record { memory = omega (arith, a .room, a .driver .ram .high) }
+
+-- Each refusal is given exactly where it is the first that is due, and none where none is.
+pub new-bound : (address length : ℕ) → Bound (newDues address length) (newCheck address length)
+unfolding newCheck
+new-bound address length = bound (newDues address length)
+
+pub allocate-bound : (d : Driver) (incoming : Bool) (r : EndpointRequest) → Bound (allocateDues d incoming r) (allocateCheck d incoming r)
+unfolding allocateCheck
+allocate-bound d incoming r = bound (allocateDues d incoming r)
+
+-- A refused request leaves the driver as it was.
+pub refused-same : (d : Driver) (incoming : Bool) (r : EndpointRequest) (q : Refusal) → allocateCheck d incoming r ≡ Refused q → allocateResult d incoming r .driver ≡ d
+unfolding allocateResult
+refused-same d incoming r q e = rw e

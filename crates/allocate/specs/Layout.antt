@@ -22,12 +22,12 @@ use Rattle.state.specs.declared.Check.the-variants.{Fits, Refused}
 use Rattle.state.specs.Slots.{slotNumber}
 use Rattle.state.specs.Fresh.{noAllocation, allocationAt}
 use Rattle.state.specs.Refusals.{none-due, not-due}
-use Rattle.state.specs.Each.{and-left, and-right, true-not-false}
+use Rattle.state.specs.Each.{every, and-left, and-right, true-not-false}
 use Rattle.sound.specs.Clauses.{inRam, aligned}
 use Rattle.sound.specs.Sound.{configb, driverSoundb}
 use Rattle.sound.specs.Facts.{InRam, in-ram, in-ram-is, DriverFacts, driver-is}
 use Rattle.allocate.specs.Rules.{periodicFits, sizeFits, endpointFor, available, startFor, sizeFor, lowest-most, slot-small}
-use Rattle.allocate.specs.Allocate.{newDues, newCheck, newDriver, newResult, capacityOf, allocateCheck, allocateAt, allocateResult, configFor, driverWith, placed, Accepted, accepted}
+use Rattle.allocate.specs.Allocate.{newDues, newCheck, newDriver, noDriver, newResult, capacityOf, allocateCheck, allocateAt, allocateResult, configFor, driverWith, placed, Accepted, accepted}
 
 abbrev pub bufferAt : Driver → ℕ → Buffer
 bufferAt d i = allocationAt d i .config .buffer
@@ -210,3 +210,8 @@ every-layout address length h qs = rw h (asks-layout (newDriver address length) 
 -- And it is sound.
 pub every-driver-sound : (address length : ℕ) → newCheck address length ≡ Fits → (qs : List Ask) → driverSoundb (after (newResult address length .driver) qs) ≡ true
 every-driver-sound address length h qs = driver-is _ (every-layout address length h qs .facts)
+
+-- What a refused creation leaves is unsound, so that no call takes it.
+pub no-driver-unsound : driverSoundb noDriver ≡ false
+unfolding driverSoundb every
+no-driver-unsound = refl

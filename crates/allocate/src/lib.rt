@@ -1,11 +1,10 @@
 // Making a driver and allocating its endpoints (reference: `Driver::new` and `allocate` of device.rs).
 ghost use mathlib.Core.Path.{_≡_};
-ghost use Prim.Native.Nat.{_≤_, _<_, _+_, _*_};
-ghost use mathlib.Core.Bool.{not, _&&_, cond};
+ghost use Prim.Native.Nat.{_≤_, _+_, _*_};
+ghost use mathlib.Core.Bool.{_&&_, cond};
 ghost use lib.Dec.{eqb};
-ghost use Rattle.state.specs.Slots.{slotNumber};
 ghost use Rattle.state.specs.Numbers.{checkNumber};
-ghost use Rattle.allocate.specs.Rules.{up4, sizeFits, burstFits, directionFits, endpointFor, available, lowest};
+ghost use Rattle.allocate.specs.Rules.{up4, sizeFits, burstFits, directionFits, available, lowest};
 ghost use Rattle.allocate.specs.Allocate.{capacityOf, newCheck, newNumber, emptyDriver, newResult, allocateCheck, Placeable, placed, allocateResult, allocateNumbers, numbersFor};
 use state::Allocation;
 use state::Buffer;

@@ -4,24 +4,7 @@ ghost use mathlib.Core.Path.{_≡_};
 ghost use mathlib.Core.Bool.{true, cond};
 ghost use mathlib.Core.List.{[], _∷_};
 ghost use Rattle.events.specs.Pending.{pendingb, eventsSoundb};
-ghost use Rattle.events.specs.Events.{
-  eventNumber,
-  eventb,
-  withEvent,
-  withoutEvent,
-  onlyReset,
-  raised,
-  raiseAnswer,
-  raiseNumber,
-  raiseEvents,
-  precedence,
-  firstPending,
-  firstNumber,
-  pollAnswer,
-  pollNumbers,
-  answered,
-  pollEvents,
-};
+ghost use Rattle.events.specs.Events.{eventNumber, eventb, withEvent, withoutEvent, onlyReset, raised, raiseAnswer, raiseNumber, raiseEvents, precedence, firstPending, firstNumber, pollAnswer, pollNumbers, answered, pollEvents};
 use state::Events;
 use state::POWER;
 use state::RESET;

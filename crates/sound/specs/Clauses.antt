@@ -12,7 +12,7 @@ use Rattle.state.specs.declared.Events.{Events}
 use Rattle.state.specs.declared.Driver.{Driver}
 use Rattle.state.specs.Slots.{idleb, busyb, slotNumber}
 use Rattle.state.specs.Fresh.{slotAt, allocationAt}
-use Rattle.state.specs.Awaiting.{awaitingb, chainStageb}
+use Rattle.state.specs.Awaiting.{awaitingb, chainReadingb}
 use Rattle.events.specs.Pending.{eventsSoundb}
 use Rattle.state.specs.Each.{every}
 
@@ -90,9 +90,9 @@ slotClauses powered = useClauses powered ++ map (λ (c : ℕ → Bool → Endpoi
 abbrev pub awaitedClauses : Bool → Awaited → List Bool
 awaitedClauses powered a =
     -- a reading awaited while unpowered
-    (not (awaitingb (a .stage)) || powered)
+    (not (awaitingb (a .next)) || powered)
     -- a chain reading for an endpoint outside 1–7
-    ∷ (not (chainStageb (a .stage)) || (leb 1 (a .endpoint) && leb (a .endpoint) 7))
+    ∷ (not (chainReadingb (a .next)) || (leb 1 (a .endpoint) && leb (a .endpoint) 7))
     ∷ []
 
 abbrev pub stateClauses : State → Events → List Bool

@@ -15,8 +15,8 @@ use Rattle.state.specs.declared.Phase.{Phase}
 use Rattle.state.specs.declared.Phase.the-variants.{Idle, Busy, Done}
 use Rattle.state.specs.declared.Transfer.{Transfer}
 use Rattle.state.specs.declared.Slot.{Slot}
-use Rattle.state.specs.declared.Stage.{Stage}
-use Rattle.state.specs.declared.Stage.the-variants as stage
+use Rattle.state.specs.declared.Awaiting.{Awaiting}
+use Rattle.state.specs.declared.Awaiting.the-variants as awaiting
 use Rattle.state.specs.declared.Awaited.{Awaited}
 use Rattle.state.specs.declared.State.{State}
 use Rattle.state.specs.declared.Events.{Events}
@@ -68,10 +68,10 @@ ready k = slot true true false k Idle (moved 0 0 0)
 abbrev busy : EndpointConfig → ℕ → ℕ → ℕ → Slot
 busy k address length progress = slot true true false k Busy (moved address length progress)
 
-abbrev awaiting : Stage → ℕ → Awaited
-awaiting stage endpoint =
+abbrev asked : Awaiting → ℕ → Awaited
+asked next endpoint =
     record {
-      stage = stage;
+      next = next;
       flags = nothingAwaited .flags;
       «link_state» = nothingAwaited .«link_state»;
       endpoint = endpoint;
@@ -120,7 +120,7 @@ moving =
     true
     0
     0
-    (awaiting stage.LastLength 7)
+    (asked awaiting.LastLength 7)
 
 pub record Fault : Type 0 where
   pub state : State
@@ -186,9 +186,9 @@ stateFaults =
     -- a sequence number of 6 bits
     ∷ quietly (stateOf slots 0x200A0000 true 32 127 nothingAwaited)
     -- an interrupt is half answered, the power is gone
-    ∷ quietly (stateOf slots 0x200A0000 false 31 127 (awaiting stage.LinkFlags 0))
+    ∷ quietly (stateOf slots 0x200A0000 false 31 127 (asked awaiting.LinkFlags 0))
     -- packets are asked of endpoint 0, which has no chain
-    ∷ quietly (stateOf slots 0x200A0000 true 31 127 (awaiting stage.ChainPackets 0))
+    ∷ quietly (stateOf slots 0x200A0000 true 31 127 (asked awaiting.ChainPackets 0))
     ∷ []
 
 -- row k is refused by clause k
@@ -240,6 +240,27 @@ diagonal n = rowsTo n n
 pub each-clause-alone : map (λ (f : Fault). clauses (f .state) (f .events)) faults ≡ diagonal 21
 unfolding every
 each-clause-alone = refl
+
+-- the other end of a range, where a clause has two
+abbrev pub otherFaults : List Fault
+otherFaults =
+    -- the buffer begins 4 bytes before RAM
+    quietly (runningWith 15 (ready (bulk 7 true 1024 0x2009FFFC 1024)))
+    -- it has no bytes
+    ∷ quietly (runningWith 15 (ready (bulk 7 true 1024 0x200A0200 0)))
+    -- the transfer ends 4 bytes past RAM
+    ∷ quietly (runningWith 15 (busy inConfig 0x2017FC04 1024 0))
+    -- EP0's memory begins 4 bytes before RAM
+    ∷ quietly (stateOf slots 0x2009FFFC true 31 127 nothingAwaited)
+    -- packets are asked of endpoint 8
+    ∷ quietly (stateOf slots 0x200A0000 true 31 127 (asked awaiting.ChainPackets 8))
+    -- and the last length
+    ∷ quietly (stateOf slots 0x200A0000 true 31 127 (asked awaiting.LastLength 0))
+    ∷ []
+
+pub other-ends : map (λ (f : Fault). clauses (f .state) (f .events)) otherFaults ≡ map (onlyFalse 21) (6 ∷ 8 ∷ 10 ∷ 15 ∷ 20 ∷ 20 ∷ [])
+unfolding every
+other-ends = refl
 
 -- counted from 0, row 6 is the exception: too small a memory is refused by the last clause as well
 pub driver-each-clause-alone : map driverClauses driverFaults ≡ set (diagonal 10) 6 (set (onlyFalse 10 6) 9 false)

@@ -129,9 +129,9 @@ fn slots_sound(state: State) -> bool
 fn awaited_sound(powered: bool, awaited: Awaited) -> bool
     ensures { λ r. ⌜ r ≡ awaitedb powered awaited ⌝ }
 {
-    let stage = awaited.stage;
-    let awaiting = state::is_awaiting(stage);
-    let chain = state::is_chain_stage(stage);
+    let next = awaited.next;
+    let awaiting = state::is_awaiting(next);
+    let chain = state::is_chain_reading(next);
     let e = awaited.endpoint;
     (!awaiting | powered) & (!chain | ((1 <= e) & (e <= 7)))
 }

@@ -16,7 +16,7 @@ use Rattle.state.specs.declared.Check.{Check}
 use Rattle.state.specs.declared.Check.the-variants.{Fits, Refused}
 use Rattle.state.specs.Fresh.{freshSlot, slotAt, allocationAt}
 use Rattle.state.specs.Tally.{KeepsAccount, reset-keeps}
-use Rattle.state.specs.Awaiting.{awaitingb, stageNumber}
+use Rattle.state.specs.Awaiting.{awaitingb, awaitingNumber}
 use Rattle.state.specs.Refusals.{none-due, not-due}
 use Rattle.state.specs.Each.{and-left, and-right, change, change-at, change-length}
 use Rattle.events.specs.Pending.{power, eventsSoundb}
@@ -29,7 +29,7 @@ use Rattle.start.specs.Start.{startedSlot, startedSlots, startedState, s
 pub record Accepted (s : State) (e : Events) (d : Driver) : Type 0 where
   pub sound : soundb s e ≡ true
   pub driver : DriverFacts d
-  pub calm : awaitingb (s .awaited .stage) ≡ false
+  pub calm : awaitingb (s .awaited .next) ≡ false
 
 pub accepted : (s : State) (e : Events) (d : Driver) (size : ℕ) → startCheck s e d size ≡ Fits → Accepted s e d
 unfolding startCheck
@@ -74,7 +74,7 @@ own-kept : (s : State) (e : Events) (d : Driver) → Accepted s e d → ownb (st
 unfolding ownb
 own-kept s e d a =
     let f = a .driver in
-    let none : stageNumber (s .awaited .stage) ≡ 0 = eqb-true _ _ (not-false _ (a .calm)) in
+    let none : awaitingNumber (s .awaited .next) ≡ 0 = eqb-true _ _ (not-false _ (a .calm)) in
     let own = own-sound s e (a .sound) in
     let after1 = and-right (eqb (s .«ep0_address») 0 || inRam (s .«ep0_address») 512) _ own in
     let after2 = and-right (eventsSoundb (e .events)) _ after1 in

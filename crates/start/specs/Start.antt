@@ -11,6 +11,7 @@ use Rattle.state.specs.declared.Allocation.{Allocation}
 use Rattle.state.specs.declared.State.{State}
 use Rattle.state.specs.declared.Events.{Events}
 use Rattle.state.specs.declared.Driver.{Driver}
+use Rattle.state.specs.declared.Refusal.{Refusal}
 use Rattle.state.specs.declared.Refusal.the-variants.{Unsound, OutOfTurn, ControlPacketSize}
 use Rattle.state.specs.declared.Check.{Check}
 use Rattle.state.specs.declared.Check.the-variants.{Fits, Refused}
@@ -18,7 +19,7 @@ use Rattle.state.specs.Slots.{resetSlot}
 use Rattle.state.specs.Fresh.{freshSlot, slotAt, allocationAt}
 use Rattle.state.specs.Numbers.{refusalNumber, checkNumber}
 use Rattle.state.specs.Awaiting.{awaitingb}
-use Rattle.state.specs.Refusals.{Due, _if_, firstDue}
+use Rattle.state.specs.Refusals.{Due, _if_, firstDue, Bound, bound}
 use Rattle.state.specs.Each.{change, change-none, change-next}
 use Rattle.events.specs.Pending.{power}
 use Rattle.sound.specs.Sound.{soundb, driverSoundb}
@@ -103,7 +104,7 @@ startedState s d = withMemory (withSlots s (startedSlots d 16 (s .endpoints))) (
 abbrev pub startDues : State → Events → Driver → ℕ → List Due
 startDues s e d size =
     Unsound if not (soundb s e && driverSoundb d)
-    ∷ OutOfTurn if awaitingb (s .awaited .stage)
+    ∷ OutOfTurn if awaitingb (s .awaited .next)
     ∷ ControlPacketSize if not (eqb size 512)
     ∷ []
 
@@ -135,3 +136,14 @@ start-number s e d size = go (startCheck s e d size)
 pub start-told : (r : StartResult) (s : State) (e : Events) (d : Driver) (size : ℕ) → r ≡ startResult s e d size
     → (r ≡ startResult s e d size) × (startNumber (r .answer) ≡ checkNumber (startCheck s e d size))
 start-told r s e d size q = (q, rw q (start-number s e d size))
+
+-- Each refusal is given exactly where it is the first that is due, and none where none is.
+pub start-bound : (s : State) (e : Events) (d : Driver) (size : ℕ) → Bound (startDues s e d size) (startCheck s e d size)
+unfolding startCheck
+start-bound s e d size = bound (startDues s e d size)
+
+-- A refused start leaves state and events as they were.
+pub refused-same : (s : State) (e : Events) (d : Driver) (size : ℕ) (q : Refusal) → startCheck s e d size ≡ Refused q
+    → (startResult s e d size .state ≡ s) × (startResult s e d size .events ≡ e)
+unfolding startResult
+refused-same s e d size q h = (rw h, rw h)

@@ -2,7 +2,7 @@
 ghost use mathlib.Core.Path.{_≡_};
 ghost use Prim.Native.Nat.{_<_};
 ghost use Rattle.state.specs.Numbers.{checkNumber};
-ghost use Rattle.start.specs.Start.{configuredSlot, startedSlot, startedSlots, withSlots, withMemory, startCheck, startResult, startNumber};
+ghost use Rattle.start.specs.Start.{configuredSlot, startedSlot, startedSlots, withSlots, startCheck, startResult, startNumber};
 use state::Allocation;
 use state::Check;
 use state::Driver;
@@ -69,10 +69,10 @@ fn start_check(state: State, events: Events, driver: Driver, size: u16) -> Check
     ensures { λ r. ⌜ r ≡ startCheck state events driver size ⌝ }
 {
     let awaited = state.awaited;
-    let stage = awaited.stage;
+    let next = awaited.next;
     let sound = sound::sound(state, events);
     let driver_sound = sound::driver_sound(driver);
-    let awaiting = state::is_awaiting(stage);
+    let awaiting = state::is_awaiting(next);
     let sized = state::first(size != 512, Refusal::ControlPacketSize, Check::Fits);
     let turn = state::first(awaiting, Refusal::OutOfTurn, sized);
     state::first(!(sound & driver_sound), Refusal::Unsound, turn)

@@ -3,28 +3,28 @@
 use Prim.Native.Nat.{ℕ}
 use mathlib.Core.Bool.{Bool, not}
 use lib.Dec.{eqb, leb}
-use Rattle.state.specs.declared.Stage.{Stage}
-use Rattle.state.specs.declared.Stage.the-variants as stage
+use Rattle.state.specs.declared.Awaiting.{Awaiting}
+use Rattle.state.specs.declared.Awaiting.the-variants as awaiting
 
 -- the readings in the sequence of document 01; 0 where none is awaited
-abbrev pub stageNumber : Stage → ℕ
-stageNumber stage.Nothing = 0
-stageNumber stage.LinkFlags = 1
-stageNumber stage.LinkStatus = 2
-stageNumber stage.PortCapability = 3
-stageNumber stage.TermPresStatus = 4
-stageNumber stage.MessageWord = 5
-stageNumber stage.WarmResetStatus = 6
-stageNumber stage.TransferStatus = 7
-stageNumber stage.SetupBytes = 8
-stageNumber stage.Ep0Length = 9
-stageNumber stage.Ep0Sequence = 10
-stageNumber stage.ChainPackets = 11
-stageNumber stage.LastLength = 12
+abbrev pub awaitingNumber : Awaiting → ℕ
+awaitingNumber awaiting.Nothing = 0
+awaitingNumber awaiting.LinkFlags = 1
+awaitingNumber awaiting.LinkStatus = 2
+awaitingNumber awaiting.PortCapability = 3
+awaitingNumber awaiting.TermPresStatus = 4
+awaitingNumber awaiting.MessageWord = 5
+awaitingNumber awaiting.WarmResetStatus = 6
+awaitingNumber awaiting.TransferStatus = 7
+awaitingNumber awaiting.SetupBytes = 8
+awaitingNumber awaiting.Ep0Length = 9
+awaitingNumber awaiting.Ep0Sequence = 10
+awaitingNumber awaiting.ChainPackets = 11
+awaitingNumber awaiting.LastLength = 12
 
 -- whether any reading is awaited, and whether it is of a data endpoint's chain
-abbrev pub awaitingb : Stage → Bool
-awaitingb s = not (eqb (stageNumber s) 0)
+abbrev pub awaitingb : Awaiting → Bool
+awaitingb s = not (eqb (awaitingNumber s) 0)
 
-abbrev pub chainStageb : Stage → Bool
-chainStageb s = leb 11 (stageNumber s)
+abbrev pub chainReadingb : Awaiting → Bool
+chainReadingb s = leb 11 (awaitingNumber s)

@@ -5,7 +5,7 @@ use Prim.Native.Nat.{ℕ}
 use lib.ListN.{replicate, getD}
 use Rattle.state.specs.declared.EndpointType.the-variants.{Control}
 use Rattle.state.specs.declared.Phase.the-variants.{Idle}
-use Rattle.state.specs.declared.Stage.the-variants.{Nothing}
+use Rattle.state.specs.declared.Awaiting.the-variants.{Nothing}
 use Rattle.state.specs.declared.LinkState.the-variants.{U0}
 use Rattle.state.specs.declared.EndpointConfig.{EndpointConfig}
 use Rattle.state.specs.declared.Slot.{Slot}
@@ -42,16 +42,16 @@ freshSlot =
 abbrev pub nothingAwaited : Awaited
 nothingAwaited =
     record {
-      stage = Nothing;
+      next = Nothing;
       flags =
           record {
-            «tx_lmp» = false;
-            «rx_lmp» = false;
-            «rx_lmp_tout» = false;
-            «state_chg» = false;
-            «warm_rst» = false;
-            «term_pres» = false;
-            «rx_set_fc» = false;
+            «link_if_tx_lmp» = false;
+            «link_if_rx_lmp» = false;
+            «link_if_rx_lmp_tout» = false;
+            «link_if_state_chg» = false;
+            «link_if_warm_rst» = false;
+            «link_if_term_pres» = false;
+            «link_if_rx_set_fc» = false;
           };
       «link_state» = U0;
       endpoint = 0;

@@ -4,7 +4,7 @@
 ghost use mathlib.Core.Path.{_≡_};
 ghost use Rattle.state.specs.Slots.{idleb, busyb, slotNumber, tallyCut, resetSlot};
 ghost use Rattle.state.specs.Fresh.{freshSlot, nothingAwaited, freshState};
-ghost use Rattle.state.specs.Awaiting.{stageNumber, awaitingb, chainStageb};
+ghost use Rattle.state.specs.Awaiting.{awaitingNumber, awaitingb, chainReadingb};
 ghost use Rattle.state.specs.Refusals.{firstOf};
 ghost use Rattle.state.specs.Numbers.{refusalNumber, readingInRange};
 
@@ -95,19 +95,19 @@ pub enum LinkState {
 
 // The flags of `link_int_flag`.
 pub struct LinkFlags {
-    pub tx_lmp: bool,
-    pub rx_lmp: bool,
-    pub rx_lmp_tout: bool,
-    pub state_chg: bool,
-    pub warm_rst: bool,
-    pub term_pres: bool,
-    pub rx_set_fc: bool,
+    pub link_if_tx_lmp: bool,
+    pub link_if_rx_lmp: bool,
+    pub link_if_rx_lmp_tout: bool,
+    pub link_if_state_chg: bool,
+    pub link_if_warm_rst: bool,
+    pub link_if_term_pres: bool,
+    pub link_if_rx_set_fc: bool,
 }
 
 pub struct LinkStatus {
     pub link_state: LinkState,
-    pub rx_term_pres: bool,
-    pub rx_warm_rst: bool,
+    pub link_rx_term_pres: bool,
+    pub link_rx_warm_rst: bool,
 }
 
 // The register `status`.
@@ -137,8 +137,8 @@ pub enum Reading {
     LastLength(u32),
 }
 
-// Where an interrupt stands. The link status is asked at up to three places.
-pub enum Stage {
+// The reading that an interrupt awaits. The link status is asked at up to three places.
+pub enum Awaiting {
     Nothing,
     LinkFlags,
     LinkStatus,
@@ -154,10 +154,10 @@ pub enum Stage {
     LastLength,
 }
 
-// The reading that an interrupt awaits, and what it remembers of earlier ones: the link's flags and state, and of a chain
+// What an interrupt awaits next, and what it remembers of earlier readings: the link's flags and state, and of a chain
 // report the endpoint and its packets.
 pub struct Awaited {
-    pub stage: Stage,
+    pub next: Awaiting,
     pub flags: LinkFlags,
     pub link_state: LinkState,
     pub endpoint: u8,
@@ -324,38 +324,38 @@ pub fn is_busy(phase: Phase) -> bool
 }
 
 // The place of an awaited reading in an interrupt's sequence; 0 where none is.
-pub fn stage_number(stage: Stage) -> u32
-    ensures { λ r. ⌜ r ≡ stageNumber stage ⌝ }
+pub fn awaiting_number(next: Awaiting) -> u32
+    ensures { λ r. ⌜ r ≡ awaitingNumber next ⌝ }
 {
-    match stage {
-        Stage::Nothing => 0,
-        Stage::LinkFlags => 1,
-        Stage::LinkStatus => 2,
-        Stage::PortCapability => 3,
-        Stage::TermPresStatus => 4,
-        Stage::MessageWord => 5,
-        Stage::WarmResetStatus => 6,
-        Stage::TransferStatus => 7,
-        Stage::SetupBytes => 8,
-        Stage::Ep0Length => 9,
-        Stage::Ep0Sequence => 10,
-        Stage::ChainPackets => 11,
-        Stage::LastLength => 12,
+    match next {
+        Awaiting::Nothing => 0,
+        Awaiting::LinkFlags => 1,
+        Awaiting::LinkStatus => 2,
+        Awaiting::PortCapability => 3,
+        Awaiting::TermPresStatus => 4,
+        Awaiting::MessageWord => 5,
+        Awaiting::WarmResetStatus => 6,
+        Awaiting::TransferStatus => 7,
+        Awaiting::SetupBytes => 8,
+        Awaiting::Ep0Length => 9,
+        Awaiting::Ep0Sequence => 10,
+        Awaiting::ChainPackets => 11,
+        Awaiting::LastLength => 12,
     }
 }
 
-pub fn is_awaiting(stage: Stage) -> bool
-    ensures { λ r. ⌜ r ≡ awaitingb stage ⌝ }
+pub fn is_awaiting(next: Awaiting) -> bool
+    ensures { λ r. ⌜ r ≡ awaitingb next ⌝ }
 {
-    let n = stage_number(stage);
+    let n = awaiting_number(next);
     n != 0
 }
 
 // Whether a reading of a data endpoint's chain is awaited.
-pub fn is_chain_stage(stage: Stage) -> bool
-    ensures { λ r. ⌜ r ≡ chainStageb stage ⌝ }
+pub fn is_chain_reading(next: Awaiting) -> bool
+    ensures { λ r. ⌜ r ≡ chainReadingb next ⌝ }
 {
-    let n = stage_number(stage);
+    let n = awaiting_number(next);
     11 <= n
 }
 
@@ -445,15 +445,15 @@ pub fn nothing_awaited() -> Awaited
     ensures { λ r. ⌜ r ≡ nothingAwaited ⌝ }
 {
     Awaited {
-        stage: Stage::Nothing,
+        next: Awaiting::Nothing,
         flags: LinkFlags {
-            tx_lmp: false,
-            rx_lmp: false,
-            rx_lmp_tout: false,
-            state_chg: false,
-            warm_rst: false,
-            term_pres: false,
-            rx_set_fc: false,
+            link_if_tx_lmp: false,
+            link_if_rx_lmp: false,
+            link_if_rx_lmp_tout: false,
+            link_if_state_chg: false,
+            link_if_warm_rst: false,
+            link_if_term_pres: false,
+            link_if_rx_set_fc: false,
         },
         link_state: LinkState::U0,
         endpoint: 0,

@@ -8,14 +8,14 @@ use Rattle.sound.proofs.awaited_sound.Tie as tie
 is-awaiting-requires : tie.Need-is-awaiting-requires
 is-awaiting-requires c κs = search needs
 
-is-chain-stage-requires : tie.Need-is-chain-stage-requires
-is-chain-stage-requires c κs = search needs
+is-chain-reading-requires : tie.Need-is-chain-reading-requires
+is-chain-reading-requires c κs = search needs
 
 returns : tie.Need-returns
 unfolding awaitedb
 returns c =
     let e = c .before .before .args .awaited .endpoint in
-    rw (c .before .is-awaiting .ensures, c .is-chain-stage .ensures, and-true)
+    rw (c .before .is-awaiting .ensures, c .is-chain-reading .ensures, and-true)
 
 pub awaited-sound-spec : {M : Type 1} → statement M
-awaited-sound-spec = tie.close (tie.spec is-awaiting-requires is-chain-stage-requires returns)
+awaited-sound-spec = tie.close (tie.spec is-awaiting-requires is-chain-reading-requires returns)
