@@ -83,7 +83,7 @@ fn is_available(driver: Driver, incoming: bool, requested: bool, index: u8, e: u
     requires { ⌜ e ≤ 7 ⌝ }
     ensures { λ r. ⌜ r ≡ available driver incoming requested index e ⌝ }
 {
-    let i = state::slot_number(e, incoming);
+    let i = state::slots::slot_number(e, incoming);
     let a = driver.endpoints[i];
     !a.configured & (!requested | (index == e))
 }
@@ -132,8 +132,8 @@ fn new_check(address: u32, length: u32) -> Check
 {
     let inside = sound::in_ram(address, length);
     let capacity = capacity_of(address, length);
-    let small = state::first(capacity < 512, Refusal::MemoryTooSmall, Check::Fits);
-    state::first(!inside, Refusal::MemoryOutsideRam, small)
+    let small = state::refusals::first(capacity < 512, Refusal::MemoryTooSmall, Check::Fits);
+    state::refusals::first(!inside, Refusal::MemoryOutsideRam, small)
 }
 
 fn allocate_check(driver: Driver, incoming: bool, request: EndpointRequest) -> Check
@@ -148,12 +148,12 @@ fn allocate_check(driver: Driver, incoming: bool, request: EndpointRequest) -> C
     let size = size_of(request.max_packet_size, request.max_burst);
     let end = end_of(driver.used, size);
     let capacity = driver.capacity as u64;
-    let room = state::first(capacity < end, Refusal::NoRoom, Check::Fits);
-    let free = state::first(endpoint == 0, Refusal::NoFreeEndpoint, room);
-    let way = state::first(!directed, Refusal::WrongDirection, free);
-    let fast = state::first(!burst, Refusal::UnfitBurst, way);
-    let kind = state::first(!sized, Refusal::UnfitPacketSize, fast);
-    state::first(!sound, Refusal::Unsound, kind)
+    let room = state::refusals::first(capacity < end, Refusal::NoRoom, Check::Fits);
+    let free = state::refusals::first(endpoint == 0, Refusal::NoFreeEndpoint, room);
+    let way = state::refusals::first(!directed, Refusal::WrongDirection, free);
+    let fast = state::refusals::first(!burst, Refusal::UnfitBurst, way);
+    let kind = state::refusals::first(!sized, Refusal::UnfitPacketSize, fast);
+    state::refusals::first(!sound, Refusal::Unsound, kind)
 }
 
 // A driver that has no endpoints.
@@ -231,7 +231,7 @@ fn place(driver: Driver, incoming: bool, request: EndpointRequest) -> AllocateRe
             size: size,
         },
     };
-    let i = state::slot_number(e, incoming);
+    let i = state::slots::slot_number(e, incoming);
     let mut d = driver;
     d.endpoints[i] = Allocation {
         configured: true,

@@ -9,7 +9,7 @@ use state::Events;
 use state::Slot;
 use state::State;
 
-// RAM is 0x200A0000 up to, not including, 0x20180000. The sum is taken in 64 bits, so that it can't wrap.
+// Whether all of it lies in RAM. The sum is taken in 64 bits, so that it can't wrap.
 pub fn in_ram(address: u32, length: u32) -> bool
     ensures { λ r. ⌜ r ≡ inRam address length ⌝ }
 {
@@ -38,7 +38,7 @@ fn config_sound(i: usize, configured: bool, config: EndpointConfig) -> bool
     ensures { λ r. ⌜ r ≡ configb i configured config ⌝ }
 {
     if configured {
-        let number = state::slot_number(config.index, config.incoming);
+        let number = state::slots::slot_number(config.index, config.incoming);
         let m = config.max_packet_size as u32;
         let address = config.buffer.address;
         let size = config.buffer.size;
@@ -59,7 +59,7 @@ fn use_sound(powered: bool, i: usize, x: Slot) -> bool
         return true;
     }
     let phase = x.phase;
-    let idle = state::is_idle(phase);
+    let idle = state::slots::is_idle(phase);
     (!x.enabled | x.configured) & ((idle | powered) & ((idle | x.enabled) & (idle | !x.stalled)))
 }
 
@@ -94,7 +94,7 @@ fn transfer_sound(i: usize, x: Slot) -> bool
     }
     let within = x.transfer.progress <= x.transfer.length;
     let phase = x.phase;
-    let busy = state::is_busy(phase);
+    let busy = state::slots::is_busy(phase);
     if busy {
         return within & busy_sound(i, x);
     }
@@ -130,8 +130,8 @@ fn awaited_sound(powered: bool, awaited: Awaited) -> bool
     ensures { λ r. ⌜ r ≡ awaitedb powered awaited ⌝ }
 {
     let next = awaited.next;
-    let awaiting = state::is_awaiting(next);
-    let chain = state::is_chain_reading(next);
+    let awaiting = state::readings::is_awaiting(next);
+    let chain = state::readings::is_chain_reading(next);
     let e = awaited.endpoint;
     (!awaiting | powered) & (!chain | ((1 <= e) & (e <= 7)))
 }

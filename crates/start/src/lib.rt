@@ -46,7 +46,7 @@ fn start_slot(driver: Driver, i: usize, slot: Slot) -> Slot
     requires { ⌜ i < 16 ⌝ }
     ensures { λ r. ⌜ r ≡ startedSlot driver i slot ⌝ }
 {
-    let forgotten = state::reset(slot, 2 <= i, false);
+    let forgotten = state::slots::reset(slot, 2 <= i, false);
     let allocation = driver.endpoints[i];
     configure(forgotten, allocation)
 }
@@ -72,10 +72,10 @@ fn start_check(state: State, events: Events, driver: Driver, size: u16) -> Check
     let next = awaited.next;
     let sound = sound::sound(state, events);
     let driver_sound = sound::driver_sound(driver);
-    let awaiting = state::is_awaiting(next);
-    let sized = state::first(size != 512, Refusal::ControlPacketSize, Check::Fits);
-    let turn = state::first(awaiting, Refusal::OutOfTurn, sized);
-    state::first(!(sound & driver_sound), Refusal::Unsound, turn)
+    let awaiting = state::readings::is_awaiting(next);
+    let sized = state::refusals::first(size != 512, Refusal::ControlPacketSize, Check::Fits);
+    let turn = state::refusals::first(awaiting, Refusal::OutOfTurn, sized);
+    state::refusals::first(!(sound & driver_sound), Refusal::Unsound, turn)
 }
 
 // The state takes over the driver's layout and memory. Transfers in hand are cut; the device is off until it is powered.

@@ -1,14 +1,10 @@
 // The driver's state and what its calls answer (reference: the types of device.rs).
 //
 // An `Option` of the Rust is a flag and a value here; where the flag is clear, the value means nothing.
-ghost use mathlib.Core.Path.{_≡_};
-ghost use Rattle.state.specs.Slots.{idleb, busyb, slotNumber, tallyCut, resetSlot};
-ghost use Rattle.state.specs.Fresh.{freshSlot, nothingAwaited, freshState};
-ghost use Rattle.state.specs.Awaiting.{awaitingNumber, awaitingb, chainReadingb};
-ghost use Rattle.state.specs.Refusals.{firstOf};
-ghost use Rattle.state.specs.Numbers.{refusalNumber, readingInRange};
-
-pub const SLOTS: usize = 16;
+pub mod fresh;
+pub mod readings;
+pub mod refusals;
+pub mod slots;
 
 pub const EP0_SIZE: u32 = 512;
 
@@ -19,7 +15,7 @@ pub enum EndpointType {
     Interrupt,
 }
 
-// A piece of the endpoint memory.
+// Where a buffer lies, and how long it is.
 pub struct Buffer {
     pub address: u32,
     pub size: u32,
@@ -42,6 +38,7 @@ pub enum Phase {
     Done,
 }
 
+// `progress`: of IN the bytes handed to the controller, of OUT those received. `zlp`: an empty packet is to follow.
 pub struct Transfer {
     pub address: u32,
     pub length: u32,
@@ -166,19 +163,28 @@ pub struct Awaited {
 
 pub struct State {
     pub endpoints: [Slot; 16],
+    // where EP0's 512 bytes begin; 0 before the first start
     pub ep0_address: u32,
     pub powered: bool,
     pub suspended: bool,
+    // slots that the end of the next interrupt wakes
     pub wake: u16,
+    // a SETUP that nobody has fetched
     pub has_setup: bool,
     pub setup: Setup,
+    // one more with each SETUP and bus reset
     pub control_generation: u32,
+    // the EP0 IN packet that is armed is the last of its data stage
     pub in_last: bool,
+    // as the last EP0 IN report gave it
     pub tx_seq: u8,
+    // the device address that waits for its status stage
     pub has_address: bool,
     pub address: u8,
     pub revision: u8,
+    // a reset was raised since the link came up
     pub reset_seen: bool,
+    // the PHY is set for a link that sleeps
     pub low_power: bool,
     pub awaited: Awaited,
 }
@@ -202,6 +208,7 @@ pub struct Allocation {
     pub config: EndpointConfig,
 }
 
+// `memory` begins with EP0's 512 bytes; `used` of its `capacity` bytes are taken.
 pub struct Driver {
     pub memory: u32,
     pub capacity: u32,
@@ -248,250 +255,4 @@ pub enum Refusal {
 pub enum Check {
     Fits,
     Refused(Refusal),
-}
-
-// The refusal if it is due, else what further tests came to.
-pub fn first(due: bool, refusal: Refusal, further: Check) -> Check
-    ensures { λ r. ⌜ r ≡ firstOf due refusal further ⌝ }
-{
-    if due {
-        return Check::Refused(refusal);
-    }
-    further
-}
-
-pub fn refusal_number(refusal: Refusal) -> u32
-    ensures { λ r. ⌜ r ≡ refusalNumber refusal ⌝ }
-{
-    match refusal {
-        Refusal::MemoryOutsideRam => 1,
-        Refusal::MemoryTooSmall => 2,
-        Refusal::UnfitPacketSize => 3,
-        Refusal::UnfitBurst => 4,
-        Refusal::WrongDirection => 5,
-        Refusal::ControlPacketSize => 6,
-        Refusal::NoDataEndpoint => 7,
-        Refusal::UnfitBuffer => 8,
-        Refusal::TooLong => 9,
-        Refusal::ListTooShort => 10,
-        Refusal::OutOfRange => 11,
-        Refusal::NoFreeEndpoint => 20,
-        Refusal::NoRoom => 21,
-        Refusal::Disabled => 22,
-        Refusal::InHand => 23,
-        Refusal::OutOfTurn => 24,
-        Refusal::NotSuspended => 25,
-        Refusal::Unsound => 26,
-    }
-}
-
-// Whether the numbers of a reading lie in their ranges.
-pub fn reading_in_range(reading: Reading) -> bool
-    ensures { λ r. ⌜ r ≡ readingInRange reading ⌝ }
-{
-    match reading {
-        Reading::LinkFlags(_) => true,
-        Reading::LinkStatus(_) => true,
-        Reading::ForcePm(_) => true,
-        Reading::MessageWord(_) => true,
-        Reading::TransferStatus(status) => status.ep_id <= 15,
-        Reading::SetupBytes(_) => true,
-        Reading::Ep0Length(n) => n <= EP0_SIZE,
-        Reading::Ep0Sequence(n) => n <= 31,
-        Reading::ChainPackets(n) => n <= 255,
-        Reading::LastLength(n) => n <= 65535,
-    }
-}
-
-pub fn is_idle(phase: Phase) -> bool
-    ensures { λ r. ⌜ r ≡ idleb phase ⌝ }
-{
-    match phase {
-        Phase::Idle => true,
-        Phase::Busy => false,
-        Phase::Done => false,
-    }
-}
-
-pub fn is_busy(phase: Phase) -> bool
-    ensures { λ r. ⌜ r ≡ busyb phase ⌝ }
-{
-    match phase {
-        Phase::Idle => false,
-        Phase::Busy => true,
-        Phase::Done => false,
-    }
-}
-
-// The place of an awaited reading in an interrupt's sequence; 0 where none is.
-pub fn awaiting_number(next: Awaiting) -> u32
-    ensures { λ r. ⌜ r ≡ awaitingNumber next ⌝ }
-{
-    match next {
-        Awaiting::Nothing => 0,
-        Awaiting::LinkFlags => 1,
-        Awaiting::LinkStatus => 2,
-        Awaiting::PortCapability => 3,
-        Awaiting::TermPresStatus => 4,
-        Awaiting::MessageWord => 5,
-        Awaiting::WarmResetStatus => 6,
-        Awaiting::TransferStatus => 7,
-        Awaiting::SetupBytes => 8,
-        Awaiting::Ep0Length => 9,
-        Awaiting::Ep0Sequence => 10,
-        Awaiting::ChainPackets => 11,
-        Awaiting::LastLength => 12,
-    }
-}
-
-pub fn is_awaiting(next: Awaiting) -> bool
-    ensures { λ r. ⌜ r ≡ awaitingb next ⌝ }
-{
-    let n = awaiting_number(next);
-    n != 0
-}
-
-// Whether a reading of a data endpoint's chain is awaited.
-pub fn is_chain_reading(next: Awaiting) -> bool
-    ensures { λ r. ⌜ r ≡ chainReadingb next ⌝ }
-{
-    let n = awaiting_number(next);
-    11 <= n
-}
-
-// 2 * index, and 1 more for IN.
-pub fn slot_number(index: u8, incoming: bool) -> usize
-    ensures { λ r. ⌜ r ≡ slotNumber index incoming ⌝ }
-{
-    (index as usize) * 2 + incoming as usize
-}
-
-// What a cut transfer adds to its tally; nothing where `cut` is clear.
-fn count_cut(tally: Tally, cut: bool, progress: u32) -> Tally
-    ensures { λ r. ⌜ r ≡ tallyCut tally cut progress ⌝ }
-{
-    if cut {
-        let cuts = std::num::wrapping_add_u32(tally.cut, 1);
-        let bytes = std::num::wrapping_add_u32(tally.bytes, progress);
-        return Tally {
-            begun: tally.begun,
-            finished: tally.finished,
-            cut: cuts,
-            bytes: bytes,
-        };
-    }
-    tally
-}
-
-// The slot with its transfer forgotten. One in hand is cut; EP0's stages (`tallied` clear) aren't tallied.
-pub fn reset(slot: Slot, tallied: bool, enabled: bool) -> Slot
-    ensures { λ r. ⌜ r ≡ resetSlot slot tallied enabled ⌝ }
-{
-    let phase = slot.phase;
-    let idle = is_idle(phase);
-    let before = slot.tally;
-    let tally = count_cut(before, tallied & !idle, slot.transfer.progress);
-    let config = slot.config;
-    let transfer = slot.transfer;
-    Slot {
-        configured: slot.configured,
-        config: config,
-        enabled: enabled,
-        stalled: false,
-        phase: Phase::Idle,
-        transfer: transfer,
-        tally: tally,
-    }
-}
-
-// A slot that nothing was done to.
-pub fn fresh_slot() -> Slot
-    ensures { λ r. ⌜ r ≡ freshSlot ⌝ }
-{
-    Slot {
-        configured: false,
-        config: EndpointConfig {
-            index: 0,
-            incoming: false,
-            ep_type: EndpointType::Control,
-            max_packet_size: 0,
-            interval_ms: 0,
-            max_burst: 0,
-            buffer: Buffer {
-                address: 0,
-                size: 0,
-            },
-        },
-        enabled: false,
-        stalled: false,
-        phase: Phase::Idle,
-        transfer: Transfer {
-            address: 0,
-            length: 0,
-            progress: 0,
-            zlp: false,
-        },
-        tally: Tally {
-            begun: 0,
-            finished: 0,
-            cut: 0,
-            bytes: 0,
-        },
-    }
-}
-
-// Nothing is awaited, nothing remembered.
-pub fn nothing_awaited() -> Awaited
-    ensures { λ r. ⌜ r ≡ nothingAwaited ⌝ }
-{
-    Awaited {
-        next: Awaiting::Nothing,
-        flags: LinkFlags {
-            link_if_tx_lmp: false,
-            link_if_rx_lmp: false,
-            link_if_rx_lmp_tout: false,
-            link_if_state_chg: false,
-            link_if_warm_rst: false,
-            link_if_term_pres: false,
-            link_if_rx_set_fc: false,
-        },
-        link_state: LinkState::U0,
-        endpoint: 0,
-        packets: 0,
-    }
-}
-
-// The state before the first start.
-pub fn fresh() -> State
-    ensures { λ r. ⌜ r ≡ freshState ⌝ }
-{
-    let slot = fresh_slot();
-    let awaited = nothing_awaited();
-    State {
-        endpoints: [slot; 16],
-        ep0_address: 0,
-        powered: false,
-        suspended: false,
-        wake: 0,
-        has_setup: false,
-        setup: Setup {
-            b0: 0,
-            b1: 0,
-            b2: 0,
-            b3: 0,
-            b4: 0,
-            b5: 0,
-            b6: 0,
-            b7: 0,
-        },
-        control_generation: 0,
-        in_last: false,
-        tx_seq: 0,
-        has_address: false,
-        address: 0,
-        revision: 0,
-        reset_seen: false,
-        low_power: false,
-        awaited: awaited,
-    }
 }

@@ -1,7 +1,7 @@
 -- `count_cut`: with a cut and without. Assumes nothing.
 use borrow.Author.Needs.{needs}
-use Rattle.state.proofs.count_cut.Statement.{statement}
-use Rattle.state.proofs.count_cut.Tie as tie
+use Rattle.state.proofs.slots.count_cut.Statement.{statement}
+use Rattle.state.proofs.slots.count_cut.Tie as tie
 
 wrapping-add-u32-requires : tie.Need-wrapping-add-u32-requires
 wrapping-add-u32-requires c κs = search needs

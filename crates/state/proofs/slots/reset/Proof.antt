@@ -1,7 +1,7 @@
 -- `reset`: what the tally is told. Assumes nothing.
 use borrow.Author.Needs.{needs}
-use Rattle.state.proofs.reset.Statement.{statement}
-use Rattle.state.proofs.reset.Tie as tie
+use Rattle.state.proofs.slots.reset.Statement.{statement}
+use Rattle.state.proofs.slots.reset.Tie as tie
 
 is-idle-requires : tie.Need-is-idle-requires
 is-idle-requires c κs = search needs

@@ -1,7 +1,7 @@
 -- `is_awaiting`: by the number of what is awaited. Assumes nothing.
 use borrow.Author.Needs.{needs}
-use Rattle.state.proofs.is_awaiting.Statement.{statement}
-use Rattle.state.proofs.is_awaiting.Tie as tie
+use Rattle.state.proofs.readings.is_awaiting.Statement.{statement}
+use Rattle.state.proofs.readings.is_awaiting.Tie as tie
 
 awaiting-number-requires : tie.Need-awaiting-number-requires
 awaiting-number-requires c κs = search needs

@@ -1,7 +1,7 @@
 -- `fresh`: sixteen fresh slots, nothing awaited. Assumes nothing.
 use borrow.Author.Needs.{needs}
-use Rattle.state.proofs.fresh.Statement.{statement}
-use Rattle.state.proofs.fresh.Tie as tie
+use Rattle.state.proofs.fresh.fresh.Statement.{statement}
+use Rattle.state.proofs.fresh.fresh.Tie as tie
 
 fresh-slot-requires : tie.Need-fresh-slot-requires
 fresh-slot-requires c κs = search needs

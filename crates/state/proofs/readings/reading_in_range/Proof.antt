@@ -1,7 +1,7 @@
 -- `reading_in_range`: a case for each reading. Assumes nothing.
 use borrow.Author.Needs.{needs}
-use Rattle.state.proofs.reading_in_range.Statement.{statement}
-use Rattle.state.proofs.reading_in_range.Tie as tie
+use Rattle.state.proofs.readings.reading_in_range.Statement.{statement}
+use Rattle.state.proofs.readings.reading_in_range.Tie as tie
 
 enum-told : tie.Need-enum-told
 enum-told c = search needs

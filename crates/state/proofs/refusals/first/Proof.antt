@@ -1,6 +1,6 @@
 -- `first`: the refusal where it is due, else the rest. Assumes nothing.
-use Rattle.state.proofs.first.Statement.{statement}
-use Rattle.state.proofs.first.Tie as tie
+use Rattle.state.proofs.refusals.first.Statement.{statement}
+use Rattle.state.proofs.refusals.first.Tie as tie
 
 returns : tie.Need-returns
 returns c = rw (c .if1 .taken)

@@ -1,7 +1,7 @@
 -- `refusal_number`: a case for each refusal. Assumes nothing.
 use borrow.Author.Needs.{needs}
-use Rattle.state.proofs.refusal_number.Statement.{statement}
-use Rattle.state.proofs.refusal_number.Tie as tie
+use Rattle.state.proofs.refusals.refusal_number.Statement.{statement}
+use Rattle.state.proofs.refusals.refusal_number.Tie as tie
 
 enum-told : tie.Need-enum-told
 enum-told c = search needs

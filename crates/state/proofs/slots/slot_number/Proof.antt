@@ -2,8 +2,8 @@
 use borrow.Author.Needs.{needs}
 use native.Mathlib.Omega.{arith}
 use Rattle.state.specs.Slots.{bit-small}
-use Rattle.state.proofs.slot_number.Statement.{statement}
-use Rattle.state.proofs.slot_number.Tie as tie
+use Rattle.state.proofs.slots.slot_number.Statement.{statement}
+use Rattle.state.proofs.slots.slot_number.Tie as tie
 
 mul-result : tie.Need-mul-result
 mul-result c = search needs

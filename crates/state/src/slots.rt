@@ -1,0 +1,71 @@
+// One slot: its number, its phase, and how it forgets its transfer.
+ghost use mathlib.Core.Path.{_≡_};
+ghost use Rattle.state.specs.Slots.{idleb, busyb, slotNumber, tallyCut, resetSlot};
+use super::Phase;
+use super::Slot;
+use super::Tally;
+
+pub fn is_idle(phase: Phase) -> bool
+    ensures { λ r. ⌜ r ≡ idleb phase ⌝ }
+{
+    match phase {
+        Phase::Idle => true,
+        Phase::Busy => false,
+        Phase::Done => false,
+    }
+}
+
+pub fn is_busy(phase: Phase) -> bool
+    ensures { λ r. ⌜ r ≡ busyb phase ⌝ }
+{
+    match phase {
+        Phase::Idle => false,
+        Phase::Busy => true,
+        Phase::Done => false,
+    }
+}
+
+// 2 * index, and 1 more for IN.
+pub fn slot_number(index: u8, incoming: bool) -> usize
+    ensures { λ r. ⌜ r ≡ slotNumber index incoming ⌝ }
+{
+    (index as usize) * 2 + incoming as usize
+}
+
+// What a cut transfer adds to its tally; nothing where `cut` is clear.
+fn count_cut(tally: Tally, cut: bool, progress: u32) -> Tally
+    ensures { λ r. ⌜ r ≡ tallyCut tally cut progress ⌝ }
+{
+    if cut {
+        let cuts = std::num::wrapping_add_u32(tally.cut, 1);
+        let bytes = std::num::wrapping_add_u32(tally.bytes, progress);
+        return Tally {
+            begun: tally.begun,
+            finished: tally.finished,
+            cut: cuts,
+            bytes: bytes,
+        };
+    }
+    tally
+}
+
+// The slot with its transfer forgotten. One in hand is cut; EP0's stages (`tallied` clear) aren't tallied.
+pub fn reset(slot: Slot, tallied: bool, enabled: bool) -> Slot
+    ensures { λ r. ⌜ r ≡ resetSlot slot tallied enabled ⌝ }
+{
+    let phase = slot.phase;
+    let idle = is_idle(phase);
+    let before = slot.tally;
+    let tally = count_cut(before, tallied & !idle, slot.transfer.progress);
+    let config = slot.config;
+    let transfer = slot.transfer;
+    Slot {
+        configured: slot.configured,
+        config: config,
+        enabled: enabled,
+        stalled: false,
+        phase: Phase::Idle,
+        transfer: transfer,
+        tally: tally,
+    }
+}
