@@ -118,7 +118,7 @@ config-placed d incoming r a =
     let whole : eqb (size % m) 0 ≡ true = eq-eqb _ _ (mul-mod-right m (r .«max_burst» + 1)) in
     rw (named, low, high, ram, even, some, whole)
 
-module _ (d : Driver) (incoming : Bool) (r : EndpointRequest) (a : Accepted d incoming r) (l : Layout d) where
+module _ (d : Driver) (incoming : Bool) (r : EndpointRequest) (a : Accepted d incoming r) (sixteen : length (d .endpoints) ≡ 16) where
   abbrev here : ℕ
   here = slotNumber (endpointFor d incoming r) incoming
 
@@ -130,7 +130,7 @@ module _ (d : Driver) (incoming : Bool) (r : EndpointRequest) (a : Accepted d in
 
   -- slot by slot: the new one, and the others as they were
   at-here : allocationAt there here ≡ record { configured = true; config = configFor d incoming r }
-  at-here = getD-set-same (d .endpoints) here _ noAllocation (rw (l .slots) here-in)
+  at-here = getD-set-same (d .endpoints) here _ noAllocation (rw sixteen here-in)
 
   elsewhere : (i : ℕ) → (i ≡ here → ⊥) → allocationAt there i ≡ allocationAt d i
   elsewhere i n = getD-set-other (d .endpoints) here i _ noAllocation n
@@ -153,31 +153,44 @@ module _ (d : Driver) (incoming : Bool) (r : EndpointRequest) (a : Accepted d in
       go true e = rw (eqb-true i here e, at-here) new
       go false e = rw (elsewhere i (eqb-false i here e)) (old i (eqb-false i here e) b)
 
-  with-layout : Layout there
-  with-layout =
+  with-facts : DriverFacts there
+  with-facts =
       record {
-        facts =
-            record {
-              ram = a .driver .ram;
-              even = a .driver .even;
-              ep0 = omega (arith, a .driver .ep0);
-              room = a .room;
-              configs = by-slot (λ i x. configb i (x .configured) (x .config) ≡ true) (config-placed d incoming r a) (λ i n b. a .driver .configs i b);
-            };
-        slots = length-set (d .endpoints) here _ ∙ l .slots;
+        ram = a .driver .ram;
+        even = a .driver .even;
+        ep0 = omega (arith, a .driver .ep0);
+        room = a .room;
+        configs = by-slot (λ i x. configb i (x .configured) (x .config) ≡ true) (config-placed d incoming r a) (λ i n b. a .driver .configs i b);
+      }
+
+  -- the new buffer and any other, and two others
+  new-apart : Layout d → (j : ℕ) → j < 16 → (here ≡ j → ⊥) → allocated there j ≡ true → Apart (configFor d incoming r .buffer) (bufferAt there j)
+  new-apart l =
+      by-slot (λ j y. (here ≡ j → ⊥) → y .configured ≡ true → Apart (configFor d incoming r .buffer) (y .config .buffer))
+      (λ n c. absurd (n refl))
+      (λ j m b n c. inr (before-new (bufferAt d j) (l .within j b c)))
+
+  old-apart : Layout d → (i : ℕ) → i < 16 → allocated d i ≡ true → (j : ℕ) → j < 16 → (i ≡ j → ⊥) → allocated there j ≡ true → Apart (bufferAt d i) (bufferAt there j)
+  old-apart l i b c =
+      by-slot (λ j y. (i ≡ j → ⊥) → y .configured ≡ true → Apart (bufferAt d i) (y .config .buffer))
+      (λ n c′. inl (before-new (bufferAt d i) (l .within i b c)))
+      (λ j m b′ n c′. l .apart i j b b′ n c c′)
+
+  with-layout : Layout d → Layout there
+  with-layout l =
+      record {
+        facts = with-facts;
+        slots = length-set (d .endpoints) here _ ∙ sixteen;
         within = by-slot (λ i x. x .configured ≡ true → Within there (x .config .buffer)) (λ c. new-within) (λ i n b c. still-within (bufferAt d i) (l .within i b c));
         apart =
             λ i j b b′ n c c′.
-            by-slot (λ i x. (j : ℕ) → j < 16 → (i ≡ j → ⊥) → x .configured ≡ true → allocated there j ≡ true → Apart (x .config .buffer) (bufferAt there j))
-            (λ j b n c. by-slot (λ j y. (here ≡ j → ⊥) → y .configured ≡ true → Apart (configFor d incoming r .buffer) (y .config .buffer)) (λ n c. absurd (n refl)) (λ j m b n c. inr (before-new (bufferAt d j) (l .within j b c))) j b n)
-            (λ i m b j b′ n c. by-slot (λ j y. (i ≡ j → ⊥) → y .configured ≡ true → Apart (bufferAt d i) (y .config .buffer)) (λ n c′. inl (before-new (bufferAt d i) (l .within i b c))) (λ j m b′ n c′. l .apart i j b b′ n c c′) j b′ n)
+            by-slot (λ i x. x .configured ≡ true → (i ≡ j → ⊥) → Apart (x .config .buffer) (bufferAt there j))
+            (λ c n. new-apart l j b′ n c′)
+            (λ i m b c n. old-apart l i b c j b′ n c′)
             i
             b
-            j
-            b′
-            n
             c
-            c′;
+            n;
       }
 
 -- a request, and the direction it is made for
@@ -195,8 +208,18 @@ unfolding allocateResult placed
 allocate-layout d incoming r l = go (allocateCheck d incoming r) refl
   where
     go : (c : Check) → allocateCheck d incoming r ≡ c → Layout (allocateAt c d incoming r .driver)
-    go Fits e = with-layout d incoming r (accepted d incoming r e) l
+    go Fits e = with-layout d incoming r (accepted d incoming r e) (l .slots) l
     go (Refused q) e = l
+
+-- Any sound driver is left sound, its layout whatever it is.
+pub allocate-keeps-sound : (d : Driver) (incoming : Bool) (r : EndpointRequest) → length (d .endpoints) ≡ 16 → driverSoundb d ≡ true
+    → driverSoundb (allocateResult d incoming r .driver) ≡ true
+unfolding allocateResult placed
+allocate-keeps-sound d incoming r sixteen h = go (allocateCheck d incoming r) refl
+  where
+    go : (c : Check) → allocateCheck d incoming r ≡ c → driverSoundb (allocateAt c d incoming r .driver) ≡ true
+    go Fits e = driver-is (driverWith d incoming r) (with-facts d incoming r (accepted d incoming r e) sixteen)
+    go (Refused q) e = h
 
 asks-layout : (d : Driver) (qs : List Ask) → Layout d → Layout (after d qs)
 asks-layout d [] l = l

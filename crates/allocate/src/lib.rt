@@ -160,20 +160,11 @@ fn allocate_check(driver: Driver, incoming: bool, request: EndpointRequest) -> C
 fn empty(memory: u32, capacity: u32, used: u32) -> Driver
     ensures { λ r. ⌜ r ≡ emptyDriver memory capacity used ⌝ }
 {
+    let slot = state::fresh::fresh_slot();
+    let config = slot.config;
     let none = Allocation {
         configured: false,
-        config: EndpointConfig {
-            index: 0,
-            incoming: false,
-            ep_type: EndpointType::Control,
-            max_packet_size: 0,
-            interval_ms: 0,
-            max_burst: 0,
-            buffer: Buffer {
-                address: 0,
-                size: 0,
-            },
-        },
+        config: config,
     };
     Driver {
         memory: memory,

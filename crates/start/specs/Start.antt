@@ -15,7 +15,7 @@ use Rattle.state.specs.declared.Refusal.{Refusal}
 use Rattle.state.specs.declared.Refusal.the-variants.{Unsound, OutOfTurn, ControlPacketSize}
 use Rattle.state.specs.declared.Check.{Check}
 use Rattle.state.specs.declared.Check.the-variants.{Fits, Refused}
-use Rattle.state.specs.Slots.{resetSlot}
+use Rattle.state.specs.Slots.{resetSlot, stateWith, withSlots}
 use Rattle.state.specs.Fresh.{freshSlot, slotAt, allocationAt}
 use Rattle.state.specs.Numbers.{refusalNumber, checkNumber}
 use Rattle.state.specs.Awaiting.{awaitingb}
@@ -43,49 +43,6 @@ configuredSlot x a =
 abbrev pub startedSlot : Driver → ℕ → Slot → Slot
 startedSlot d i x = configuredSlot (resetSlot x (leb 2 i) false) (allocationAt d i)
 
-abbrev pub withSlots : State → List Slot → State
-withSlots s slots =
-    record {
-      endpoints = slots;
-      «ep0_address» = s .«ep0_address»;
-      powered = s .powered;
-      suspended = s .suspended;
-      wake = s .wake;
-      «has_setup» = s .«has_setup»;
-      setup = s .setup;
-      «control_generation» = s .«control_generation»;
-      «in_last» = s .«in_last»;
-      «tx_seq» = s .«tx_seq»;
-      «has_address» = s .«has_address»;
-      address = s .address;
-      revision = s .revision;
-      «reset_seen» = s .«reset_seen»;
-      «low_power» = s .«low_power»;
-      awaited = s .awaited;
-    }
-
--- EP0 gets the start of the memory; the device is off, and no SETUP waits
-abbrev pub withMemory : State → ℕ → State
-withMemory s memory =
-    record {
-      endpoints = s .endpoints;
-      «ep0_address» = memory;
-      powered = false;
-      suspended = s .suspended;
-      wake = s .wake;
-      «has_setup» = false;
-      setup = s .setup;
-      «control_generation» = s .«control_generation»;
-      «in_last» = s .«in_last»;
-      «tx_seq» = s .«tx_seq»;
-      «has_address» = s .«has_address»;
-      address = s .address;
-      revision = s .revision;
-      «reset_seen» = s .«reset_seen»;
-      «low_power» = s .«low_power»;
-      awaited = s .awaited;
-    }
-
 unfoldable pub startedSlots : Driver → ℕ → List Slot → List Slot
 startedSlots d n slots = change (startedSlot d) n slots
 
@@ -98,8 +55,9 @@ pub started-next : (s₀ s : State) (d : Driver) (i : ℕ) (y : Slot) → s ≡ 
 unfolding startedSlots
 started-next s₀ s d i y h e = rw (h, e, change-next (startedSlot d) i (s₀ .endpoints) freshSlot)
 
+-- EP0 gets the start of the memory; the device is off, and no SETUP waits
 abbrev pub startedState : State → Driver → State
-startedState s d = withMemory (withSlots s (startedSlots d 16 (s .endpoints))) (d .memory)
+startedState s d = stateWith s (startedSlots d 16 (s .endpoints)) (d .memory) false false
 
 abbrev pub startDues : State → Events → Driver → ℕ → List Due
 startDues s e d size =

@@ -2,7 +2,8 @@
 ghost use mathlib.Core.Path.{_≡_};
 ghost use Prim.Native.Nat.{_<_};
 ghost use Rattle.state.specs.Numbers.{checkNumber};
-ghost use Rattle.start.specs.Start.{configuredSlot, startedSlot, startedSlots, withSlots, startCheck, startResult, startNumber};
+ghost use Rattle.state.specs.Slots.{withSlots};
+ghost use Rattle.start.specs.Start.{configuredSlot, startedSlot, startedSlots, startCheck, startResult, startNumber};
 use state::Allocation;
 use state::Check;
 use state::Driver;

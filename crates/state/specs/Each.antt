@@ -21,9 +21,10 @@ pub every-none : (p : ℕ → Bool) → every p 0 ≡ true
 unfolding every
 every-none p = refl
 
-pub every-next : (p : ℕ → Bool) (n : ℕ) → every p (n + 1) ≡ (every p n && p n)
+-- one number more
+pub every-step : (p : ℕ → Bool) (n : ℕ) (so-far this : Bool) → so-far ≡ every p n → this ≡ p n → (so-far && this) ≡ every p (n + 1)
 unfolding every
-every-next p n = rw (add-one n)
+every-step p n so-far this h e = rw (add-one n, h, e)
 
 -- whether all of a list is true
 abbrev pub all : List Bool → Bool

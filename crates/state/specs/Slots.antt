@@ -3,11 +3,13 @@
 use Prim.Native.Nat.{ℕ, _+_, _*_, _%_, _^_, _≤_}
 use native.Mathlib.Omega.{arith}
 use mathlib.Core.Bool.{Bool, true, false, _&&_, not}
+use mathlib.Core.List.{List}
 use Rattle.ops.specs.Ops.{bit}
 use Rattle.state.specs.declared.Phase.{Phase}
 use Rattle.state.specs.declared.Phase.the-variants.{Idle, Busy, Done}
 use Rattle.state.specs.declared.Tally.{Tally}
 use Rattle.state.specs.declared.Slot.{Slot}
+use Rattle.state.specs.declared.State.{State}
 
 abbrev pub idleb : Phase → Bool
 idleb Idle = true
@@ -44,3 +46,29 @@ resetSlot x tallied enabled =
 pub bit-small : (b : Bool) → bit b ≤ 1
 bit-small true = omega arith
 bit-small false = omega arith
+
+-- the state with other slots, EP0 memory, power and waiting SETUP
+abbrev pub stateWith : State → List Slot → ℕ → Bool → Bool → State
+stateWith s slots memory powered waits =
+    record {
+      endpoints = slots;
+      «ep0_address» = memory;
+      powered = powered;
+      suspended = s .suspended;
+      wake = s .wake;
+      «has_setup» = waits;
+      setup = s .setup;
+      «control_generation» = s .«control_generation»;
+      «in_last» = s .«in_last»;
+      «tx_seq» = s .«tx_seq»;
+      «has_address» = s .«has_address»;
+      address = s .address;
+      revision = s .revision;
+      «reset_seen» = s .«reset_seen»;
+      «low_power» = s .«low_power»;
+      awaited = s .awaited;
+    }
+
+-- with other slots alone
+abbrev pub withSlots : State → List Slot → State
+withSlots s slots = stateWith s slots (s .«ep0_address») (s .powered) (s .«has_setup»)

@@ -3,7 +3,7 @@ use borrow.Author.Needs.{needs}
 use native.Mathlib.Omega.{arith}
 use mathlib.Core.Path.{_≡_}
 use Prim.Native.Nat.{_≤_, _-_}
-use Rattle.state.specs.Each.{every-none, every-next}
+use Rattle.state.specs.Each.{every-none, every-step}
 use Rattle.sound.specs.Sound.{slotsb}
 use Rattle.sound.proofs.slots_sound.Statement.{statement}
 use Rattle.sound.proofs.slots_sound.Tie as tie
@@ -37,7 +37,7 @@ loop-again : tie.Need-loop-again Inv-loop μ-loop
 unfolding slotsb
 loop-again c =
     let l = c .before .before .before .loop in
-    (search needs, rw (every-next _ (l .i), ← l .inv .1, ← c .slot-sound .ensures))
+    (search needs, every-step _ (l .i) (l .ok) (c .slot-sound .result) (l .inv .1) (c .slot-sound .ensures))
 
 returns : tie.Need-returns Inv-loop μ-loop
 returns c =
