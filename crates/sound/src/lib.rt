@@ -1,4 +1,4 @@
-// Whether a state is sound (refusal 26). Every call asks it first.
+// Whether a state is sound (refusal 26). Each call that gets one asks it.
 ghost use mathlib.Core.Path.{_≡_};
 ghost use Rattle.sound.specs.Clauses.{inRam, aligned, multiple};
 ghost use Rattle.sound.specs.Sound.{soundb, driverSoundb, configb, useb, transferb, outb, busyClausesb, slotb, awaitedb, ownb, memoryb, slotsb, allocationsb};
