@@ -1,6 +1,6 @@
 -- Every one of the first n numbers, and lists that have an entry for each.
 -- Assumes nothing.
-use Prim.Native.Nat.{ℕ, zero, suc, _+_, _<_}
+use Prim.Native.Nat.{ℕ, zero, suc, _+_, _<_, _≤_}
 use mathlib.Core.Bool.{Bool, true, false, _&&_, _||_, not, and-assoc}
 use mathlib.Core.List.{List, [], _∷_, _++_, map}
 use mathlib.Core.Path.{_≡_, refl, ap, sym, _∙_}
@@ -25,6 +25,19 @@ every-none p = refl
 pub every-step : (p : ℕ → Bool) (n : ℕ) (so-far this : Bool) → so-far ≡ every p n → this ≡ p n → (so-far && this) ≡ every p (n + 1)
 unfolding every
 every-step p n so-far this h e = rw (add-one n, h, e)
+
+-- how many of 0, 1, .., n - 1 it is true of
+unfoldable pub count : (ℕ → Bool) → ℕ → ℕ
+count p zero = 0
+count p (suc n) = count p n + bit (p n)
+
+pub count-none : (p : ℕ → Bool) → count p 0 ≡ 0
+unfolding count
+count-none p = refl
+
+pub count-step : (p : ℕ → Bool) (n so-far : ℕ) (this : Bool) → so-far ≡ count p n → this ≡ p n → so-far + bit this ≡ count p (n + 1)
+unfolding count
+count-step p n so-far this h e = rw (add-one n, h, e)
 
 -- whether all of a list is true
 abbrev pub all : List Bool → Bool
@@ -133,3 +146,14 @@ unfolding changeFrom
 change-length k f zero l = refl
 change-length k f (suc n) [] = refl
 change-length k f (suc n) (x ∷ l) = ap suc (change-length (suc k) f n l)
+
+pub length-mapped : {A B : Type 0} (f : A → B) (l : List A) (n : ℕ) → length (map f l) ≡ n → length l ≡ n
+length-mapped f [] n h = h
+length-mapped f (x ∷ l) zero h = absurd (omega (arith, h))
+length-mapped f (x ∷ l) (suc n) h = ap suc (length-mapped f l n (omega (arith, h)))
+
+-- a list has nothing past its end that could be stored to
+pub set-past : {A : Type 0} (l : List A) (i : ℕ) (x : A) → length l ≤ i → set l i x ≡ l
+set-past [] i x h = refl
+set-past (y ∷ l) zero x h = absurd (omega (arith, h))
+set-past (y ∷ l) (suc i) x h = ap (λ t. y ∷ t) (set-past l i x (omega (arith, h)))

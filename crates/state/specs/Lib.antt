@@ -5,3 +5,4 @@ pub mod Numbers
 pub mod Refusals
 pub mod Awaiting
 pub mod Each
+pub mod Waking

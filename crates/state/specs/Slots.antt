@@ -4,6 +4,7 @@ use Prim.Native.Nat.{ℕ, _+_, _*_, _%_, _^_, _≤_}
 use native.Mathlib.Omega.{arith}
 use mathlib.Core.Bool.{Bool, true, false, _&&_, not}
 use mathlib.Core.List.{List}
+use lib.ListN.{set}
 use Rattle.ops.specs.Ops.{bit}
 use Rattle.state.specs.declared.Phase.{Phase}
 use Rattle.state.specs.declared.Phase.the-variants.{Idle, Busy, Done}
@@ -31,17 +32,20 @@ tallyCut t false n = t
 tallyCut t true n = record { begun = t .begun; finished = t .finished; cut = (t .cut + 1) % 2 ^ 32; bytes = (t .bytes + n) % 2 ^ 32 }
 
 -- a transfer of a data slot that is busy or done is cut; its fields stay
-abbrev pub resetSlot : Slot → Bool → Bool → Slot
-resetSlot x tallied enabled =
+abbrev pub forgotten : Slot → Bool → Bool → Bool → Slot
+forgotten x tallied enabled stalled =
     record {
       configured = x .configured;
       config = x .config;
       enabled = enabled;
-      stalled = false;
+      stalled = stalled;
       phase = Idle;
       transfer = x .transfer;
       tally = tallyCut (x .tally) (tallied && not (idleb (x .phase))) (x .transfer .progress);
     }
+
+abbrev pub resetSlot : Slot → Bool → Bool → Slot
+resetSlot x tallied enabled = forgotten x tallied enabled false
 
 pub bit-small : (b : Bool) → bit b ≤ 1
 bit-small true = omega arith
@@ -72,3 +76,7 @@ stateWith s slots memory powered waits =
 -- with other slots alone
 abbrev pub withSlots : State → List Slot → State
 withSlots s slots = stateWith s slots (s .«ep0_address») (s .powered) (s .«has_setup»)
+
+-- with one other slot
+abbrev pub withSlot : State → ℕ → Slot → State
+withSlot s i x = withSlots s (set (s .endpoints) i x)

@@ -5,6 +5,7 @@ pub mod fresh;
 pub mod readings;
 pub mod refusals;
 pub mod slots;
+pub mod waking;
 
 pub const EP0_SIZE: u32 = 512;
 
@@ -201,6 +202,12 @@ pub const SUSPEND: u8 = 2;
 pub const RESUME: u8 = 4;
 
 pub const POWER: u8 = 8;
+
+// Who is to look again after a call: the bus, and the slots of a 16-bit set.
+pub struct Wakes {
+    pub bus: bool,
+    pub slots: u16,
+}
 
 // What is allocated for a slot.
 pub struct Allocation {

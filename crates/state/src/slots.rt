@@ -1,9 +1,12 @@
 // One slot: its number, its phase, and how it forgets its transfer.
 ghost use mathlib.Core.Path.{_≡_};
-ghost use Rattle.state.specs.Slots.{idleb, busyb, slotNumber, tallyCut, resetSlot};
+ghost use Rattle.state.specs.Slots.{idleb, busyb, slotNumber, tallyCut, forgotten, resetSlot, withSlot};
+ghost use Rattle.state.specs.Fresh.{slotAt};
 use super::Phase;
 use super::Slot;
+use super::State;
 use super::Tally;
+use super::fresh::fresh_slot;
 
 pub fn is_idle(phase: Phase) -> bool
     ensures { λ r. ⌜ r ≡ idleb phase ⌝ }
@@ -50,8 +53,8 @@ fn count_cut(tally: Tally, cut: bool, progress: u32) -> Tally
 }
 
 // The slot with its transfer forgotten. One in hand is cut; EP0's stages (`tallied` clear) aren't tallied.
-pub fn reset(slot: Slot, tallied: bool, enabled: bool) -> Slot
-    ensures { λ r. ⌜ r ≡ resetSlot slot tallied enabled ⌝ }
+pub fn forget(slot: Slot, tallied: bool, enabled: bool, stalled: bool) -> Slot
+    ensures { λ r. ⌜ r ≡ forgotten slot tallied enabled stalled ⌝ }
 {
     let phase = slot.phase;
     let idle = is_idle(phase);
@@ -63,9 +66,37 @@ pub fn reset(slot: Slot, tallied: bool, enabled: bool) -> Slot
         configured: slot.configured,
         config: config,
         enabled: enabled,
-        stalled: false,
+        stalled: stalled,
         phase: Phase::Idle,
         transfer: transfer,
         tally: tally,
     }
+}
+
+// The same, and not stalled.
+pub fn reset(slot: Slot, tallied: bool, enabled: bool) -> Slot
+    ensures { λ r. ⌜ r ≡ resetSlot slot tallied enabled ⌝ }
+{
+    forget(slot, tallied, enabled, false)
+}
+
+// The slot with a number; a fresh one where no slot has it.
+pub fn slot_at(state: State, i: usize) -> Slot
+    ensures { λ r. ⌜ r ≡ slotAt state i ⌝ }
+{
+    if i < 16 {
+        return state.endpoints[i];
+    }
+    fresh_slot()
+}
+
+// The state with another slot; unchanged where no slot has the number.
+pub fn with_slot(state: State, i: usize, slot: Slot) -> State
+    ensures { λ r. ⌜ r ≡ withSlot state i slot ⌝ }
+{
+    let mut s = state;
+    if i < 16 {
+        s.endpoints[i] = slot;
+    }
+    s
 }
