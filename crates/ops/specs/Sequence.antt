@@ -1,6 +1,6 @@
 -- Operations for one number after the other, as a loop over endpoints makes them.
 -- Assumes nothing.
-use Prim.Native.Nat.{ℕ, zero, suc, _+_, _*_}
+use Prim.Native.Nat.{ℕ, zero, suc, _+_, _*_, _≤_}
 use mathlib.Core.Path.{_≡_, refl}
 use mathlib.Core.List.{List, [], _++_}
 use native.Mathlib.Nat.{suc-mul}
@@ -32,3 +32,13 @@ upTo-length each size known (suc n) =
     let a = upTo each n in
     let b = each (suc n) in
     rw (flat-append a b, length-append (flat a) (flat b)) (omega (arith, known (suc n), upTo-length each size known n, suc-mul n size))
+
+-- where each takes a size at most
+pub upTo-most : (each : ℕ → List Op) (size : ℕ) → ((n : ℕ) → length (flat (each n)) ≤ size) → (n : ℕ)
+    → length (flat (upTo each n)) ≤ n * size
+unfolding upTo
+upTo-most each size known zero = omega arith
+upTo-most each size known (suc n) =
+    let a = upTo each n in
+    let b = each (suc n) in
+    rw (flat-append a b, length-append (flat a) (flat b)) (omega (arith, known (suc n), upTo-most each size known n, suc-mul n size))

@@ -1,0 +1,91 @@
+-- The end of a chain, as an interrupt reports it (reference: `data_irq` and `complete` of device.rs).
+-- Assumes nothing.
+use Prim.Native.Nat.{ℕ}
+use mathlib.Core.Bool.{Bool, true, false}
+use mathlib.Core.List.{List, [], _++_}
+use Rattle.ops.specs.Ops.{Op}
+use Rattle.state.specs.declared.Phase.{Phase}
+use Rattle.state.specs.declared.Phase.the-variants.{Done}
+use Rattle.state.specs.declared.Transfer.{Transfer}
+use Rattle.state.specs.declared.Slot.{Slot}
+use Rattle.state.specs.declared.State.{State}
+use Rattle.state.specs.Slots.{busyb, slotNumber, withSlot}
+use Rattle.state.specs.Fresh.{slotAt}
+use Rattle.state.specs.Waking.{addSlot}
+use Rattle.regs_endpoint.specs.Endpoint.{chainAckOps}
+use Rattle.chains.specs.Chains.{chainLimit, slotSize, movedSlot, queuedSlot, queueOps, arrived, inGoesOn, outGoesOn}
+use Rattle.window.specs.Window.{ownWindowOps}
+use Rattle.report.specs.declared.Step.{Step}
+use Rattle.report.specs.declared.Step.the-variants.{Ignored, GoesOn, Completes}
+
+-- a report of a slot that isn't busy is nobody's; else the transfer goes on or is done
+abbrev pub stepOf : Bool → Bool → Slot → Step
+stepOf false more x = Ignored
+stepOf true true x = GoesOn x
+stepOf true false x = Completes x
+
+-- IN was counted when the chain was handed over
+abbrev pub inStep : Slot → Step
+inStep x = stepOf (busyb (x .phase)) (inGoesOn (x .transfer)) x
+
+-- OUT counts what the report says
+abbrev pub receivedTransfer : Slot → ℕ → ℕ → Transfer
+receivedTransfer x packets last = arrived chainLimit (slotSize x) (x .transfer) packets last
+
+abbrev pub receivedSlot : Slot → ℕ → ℕ → Slot
+receivedSlot x packets last = movedSlot x (x .phase) (receivedTransfer x packets last)
+
+abbrev pub outStep : Slot → ℕ → ℕ → Step
+outStep x packets last = stepOf (busyb (x .phase)) (outGoesOn (slotSize x) (receivedTransfer x packets last) last) (receivedSlot x packets last)
+
+abbrev pub doneSlot : Slot → Slot
+doneSlot x = movedSlot x Done (x .transfer)
+
+-- the slots that the end of the interrupt wakes, one more among them
+abbrev pub woken : State → ℕ → State
+woken s i =
+    record {
+      endpoints = s .endpoints;
+      «ep0_address» = s .«ep0_address»;
+      powered = s .powered;
+      suspended = s .suspended;
+      wake = addSlot (s .wake) i;
+      «has_setup» = s .«has_setup»;
+      setup = s .setup;
+      «control_generation» = s .«control_generation»;
+      «in_last» = s .«in_last»;
+      «tx_seq» = s .«tx_seq»;
+      «has_address» = s .«has_address»;
+      address = s .address;
+      revision = s .revision;
+      «reset_seen» = s .«reset_seen»;
+      «low_power» = s .«low_power»;
+      awaited = s .awaited;
+    }
+
+abbrev pub stateAfter : State → ℕ → Bool → Step → State
+stateAfter s i incoming Ignored = s
+stateAfter s i incoming (GoesOn x) = withSlot s i (queuedSlot chainLimit incoming x)
+stateAfter s i incoming (Completes x) = woken (withSlot s i (doneSlot x)) i
+
+-- the next chain, and behind it the window of an OUT endpoint
+abbrev pub opsAfter : State → ℕ → Bool → Step → List Op
+opsAfter s e incoming Ignored = []
+opsAfter s e incoming (GoesOn x) = queueOps chainLimit e incoming x ++ ownWindowOps s e incoming
+opsAfter s e incoming (Completes x) = []
+
+-- the flag of the chain is acknowledged first, whatever the slot is in
+abbrev pub reportOps : State → ℕ → Bool → Step → List Op
+reportOps s e incoming step = chainAckOps e incoming ++ opsAfter s e incoming step
+
+unfoldable pub inReportState : State → ℕ → State
+inReportState s e = stateAfter s (slotNumber e true) true (inStep (slotAt s (slotNumber e true)))
+
+unfoldable pub inReportOps : State → ℕ → List Op
+inReportOps s e = reportOps s e true (inStep (slotAt s (slotNumber e true)))
+
+unfoldable pub outReportState : State → ℕ → ℕ → ℕ → State
+outReportState s e packets last = stateAfter s (slotNumber e false) false (outStep (slotAt s (slotNumber e false)) packets last)
+
+unfoldable pub outReportOps : State → ℕ → ℕ → ℕ → List Op
+outReportOps s e packets last = reportOps s e false (outStep (slotAt s (slotNumber e false)) packets last)

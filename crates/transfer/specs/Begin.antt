@@ -1,0 +1,144 @@
+-- Beginning a transfer (reference: `run` of endpoint.rs, `start` of device.rs).
+-- Assumes nothing.
+use Prim.Native.Nat.{ℕ, _+_, _%_, _^_}
+use mathlib.Core.Path.{_≡_, refl}
+use mathlib.Core.Bool.{Bool, true, false, _&&_, _||_, not}
+use mathlib.Core.List.{List, [], _∷_, _++_}
+use lib.Dec.{leb, ltb}
+use Rattle.ops.specs.Ops.{Op}
+use Rattle.state.specs.declared.Phase.the-variants.{Busy}
+use Rattle.state.specs.declared.Slot.{Slot}
+use Rattle.state.specs.declared.State.{State}
+use Rattle.state.specs.declared.Events.{Events}
+use Rattle.state.specs.declared.Refusal.{Refusal}
+use Rattle.state.specs.declared.Refusal.the-variants.{ListTooShort, Unsound, OutOfTurn, NoDataEndpoint, Disabled, InHand, UnfitBuffer}
+use Rattle.state.specs.declared.Check.{Check}
+use Rattle.state.specs.declared.Check.the-variants.{Fits, Refused}
+use Rattle.state.specs.Slots.{idleb, slotNumber, withSlot}
+use Rattle.state.specs.Fresh.{slotAt}
+use Rattle.state.specs.Numbers.{refusalNumber, checkNumber}
+use Rattle.state.specs.Awaiting.{awaitingb}
+use Rattle.state.specs.Refusals.{Due, _if_, firstDue, Bound, bound}
+use Rattle.state.specs.Waking.{noWakes}
+use Rattle.sound.specs.Clauses.{inRam, aligned, multiple}
+use Rattle.sound.specs.Sound.{soundb}
+use Rattle.chains.specs.Chains.{chainLimit, slotSize, queuedSlot, queueOps}
+use Rattle.window.specs.Window.{windowsOps}
+use Rattle.transfer.specs.declared.BeginAnswer.{BeginAnswer}
+use Rattle.transfer.specs.declared.BeginAnswer.the-variants as begin
+use Rattle.transfer.specs.declared.BeginResult.{BeginResult}
+
+-- the endpoints that have transfers
+abbrev pub dataEndpoint : ℕ → Bool
+dataEndpoint e = leb 1 e && leb e 7
+
+-- what is to be moved: where, how many bytes, and whether an empty packet closes it
+pub record Piece : Type 0 where
+  pub address : ℕ
+  pub length : ℕ
+  pub flag : Bool
+
+-- refusal 8: in RAM, at a multiple of 4, and for OUT room for whole packets, at least one
+abbrev pub pieceFits : Bool → ℕ → Piece → Bool
+pieceFits true m p = inRam (p .address) (p .length) && aligned (p .address)
+pieceFits false m p = (inRam (p .address) (p .length) && aligned (p .address)) && (ltb 0 (p .length) && multiple (p .length) m)
+
+-- a slot of a powered device takes transfers while it is enabled and not stalled
+abbrev pub ready : Bool → Slot → Bool
+ready powered x = (powered && x .enabled) && not (x .stalled)
+
+-- 7, 22, 23 and 8, of a slot
+abbrev pub slotDues : Bool → ℕ → Bool → Slot → Piece → List Due
+slotDues powered e incoming x p =
+    NoDataEndpoint if not (dataEndpoint e)
+    ∷ Disabled if not (ready powered x)
+    ∷ InHand if not (idleb (x .phase))
+    ∷ UnfitBuffer if not (pieceFits incoming (slotSize x) p)
+    ∷ []
+
+abbrev pub beginDues : State → Events → ℕ → Bool → Piece → ℕ → List Due
+beginDues s v e incoming p room =
+    ListTooShort if ltb room 640
+    ∷ Unsound if not (soundb s v)
+    ∷ OutOfTurn if awaitingb (s .awaited .next)
+    ∷ slotDues (s .powered) e incoming (slotAt s (slotNumber e incoming)) p
+
+unfoldable pub beginCheck : State → Events → ℕ → Bool → Piece → ℕ → Check
+beginCheck s v e incoming p room = firstDue (beginDues s v e incoming p room)
+
+-- the slot has the transfer in hand, with nothing of it moved
+abbrev pub begunSlot : Slot → Piece → Slot
+begunSlot x p =
+    record {
+      configured = x .configured;
+      config = x .config;
+      enabled = x .enabled;
+      stalled = x .stalled;
+      phase = Busy;
+      transfer = record { address = p .address; length = p .length; progress = 0; zlp = p .flag };
+      tally =
+          record {
+            begun = (x .tally .begun + 1) % 2 ^ 32;
+            finished = x .tally .finished;
+            cut = x .tally .cut;
+            bytes = x .tally .bytes;
+          };
+    }
+
+abbrev pub begunAt : State → ℕ → Bool → Piece → Slot
+begunAt s e incoming p = begunSlot (slotAt s (slotNumber e incoming)) p
+
+-- its first chain is handed over
+abbrev pub begunState : State → ℕ → Bool → Piece → State
+begunState s e incoming p = withSlot s (slotNumber e incoming) (queuedSlot chainLimit incoming (begunAt s e incoming p))
+
+-- the windows of all busy OUT endpoints, this one among them, and then the chain
+abbrev pub begunOps : State → ℕ → Bool → Piece → List Op
+begunOps s e incoming p =
+    windowsOps (withSlot s (slotNumber e incoming) (begunAt s e incoming p)) ++ queueOps chainLimit e incoming (begunAt s e incoming p)
+
+abbrev pub beginAnswerAt : Check → BeginAnswer
+beginAnswerAt Fits = begin.Begun
+beginAnswerAt (Refused r) = begin.Refused r
+
+abbrev pub beginStateAt : Check → State → ℕ → Bool → Piece → State
+beginStateAt Fits s e incoming p = begunState s e incoming p
+beginStateAt (Refused r) s e incoming p = s
+
+abbrev pub beginOpsAt : Check → State → ℕ → Bool → Piece → List Op
+beginOpsAt Fits s e incoming p = begunOps s e incoming p
+beginOpsAt (Refused r) s e incoming p = []
+
+unfoldable pub beginAnswer : State → Events → ℕ → Bool → Piece → ℕ → BeginAnswer
+beginAnswer s v e incoming p room = beginAnswerAt (beginCheck s v e incoming p room)
+
+unfoldable pub beginState : State → Events → ℕ → Bool → Piece → ℕ → State
+beginState s v e incoming p room = beginStateAt (beginCheck s v e incoming p room) s e incoming p
+
+unfoldable pub beginOps : State → Events → ℕ → Bool → Piece → ℕ → List Op
+beginOps s v e incoming p room = beginOpsAt (beginCheck s v e incoming p room) s e incoming p
+
+-- the number of an answer: 0 for a transfer begun, else the refusal's
+abbrev pub beginNumber : BeginAnswer → ℕ
+beginNumber begin.Begun = 0
+beginNumber (begin.Refused r) = refusalNumber r
+
+pub begin-number : (s : State) (v : Events) (e : ℕ) (incoming : Bool) (p : Piece) (room : ℕ)
+    → beginNumber (beginAnswer s v e incoming p room) ≡ checkNumber (beginCheck s v e incoming p room)
+unfolding beginAnswer
+begin-number s v e incoming p room = go (beginCheck s v e incoming p room)
+  where
+    go : (c : Check) → beginNumber (beginAnswerAt c) ≡ checkNumber c
+    go Fits = refl
+    go (Refused r) = refl
+
+-- Each refusal is given exactly where it is the first that is due, and none where none is.
+pub begin-bound : (s : State) (v : Events) (e : ℕ) (incoming : Bool) (p : Piece) (room : ℕ) → Bound (beginDues s v e incoming p room) (beginCheck s v e incoming p room)
+unfolding beginCheck
+begin-bound s v e incoming p room = bound (beginDues s v e incoming p room)
+
+-- A refused begin leaves the state as it was and asks nothing of the registers.
+pub begin-refused : (s : State) (v : Events) (e : ℕ) (incoming : Bool) (p : Piece) (room : ℕ) (r : Refusal) → beginCheck s v e incoming p room ≡ Refused r
+    → (beginState s v e incoming p room ≡ s) × (beginOps s v e incoming p room ≡ [])
+unfolding beginState beginOps
+begin-refused s v e incoming p room r h = (rw h, rw h)
