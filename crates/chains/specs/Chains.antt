@@ -8,7 +8,8 @@ use mathlib.Core.List.{List}
 use native.Mathlib.Nat.{add-div-right, div-zero, div-eq-of-lt, mul-le-mul-right}
 use native.Mathlib.Omega.{arith}
 use lib.Dec.{eqb, leb, ltb}
-use Rattle.ops.specs.Ops.{Op}
+use lib.ListN.{length}
+use Rattle.ops.specs.Ops.{Op, flat, records}
 use Rattle.state.specs.declared.Phase.{Phase}
 use Rattle.state.specs.declared.Transfer.{Transfer}
 use Rattle.state.specs.declared.Slot.{Slot}
@@ -132,3 +133,8 @@ unfolding chainPackets
 product-fits p limit m n k e b d h =
     let small : k ≤ 255 = omega (arith, e, b, h) in
     omega (arith, mul-le-mul-right m small)
+
+-- a chain is handed over in five records at most
+pub queue-most : (limit e : ℕ) (incoming : Bool) (x : Slot) → length (flat (queueOps limit e incoming x)) ≤ records 5
+queue-most limit e true x = omega arith
+queue-most limit e false x = omega arith
