@@ -72,7 +72,14 @@ fn complete(state: State, i: usize, slot: Slot) -> State
 }
 
 // The next chain, and behind it the window of an OUT endpoint.
-fn go_on(ops: &mut [u32], at: usize, state: State, index: u8, incoming: bool, slot: Slot) -> Reported
+fn go_on(
+    ops: &mut [u32],
+    at: usize,
+    state: State,
+    index: u8,
+    incoming: bool,
+    slot: Slot,
+) -> Reported
     requires { ⌜ at + records 6 ≤ length (now ops) ⌝ }
     ensures state { λ r. ⌜ r .state ≡ stateAfter state (slotNumber index incoming) incoming (GoesOn slot) ⌝ }
     ensures list { λ r. ⌜ Wrote (now (ops .entry)) at (opsAfter state index incoming (GoesOn slot)) (r .end) (now (ops .exit)) ⌝ }
@@ -82,14 +89,18 @@ fn go_on(ops: &mut [u32], at: usize, state: State, index: u8, incoming: bool, sl
     let end = window::set_own_window(ops, queued.end, state, index, incoming);
     let next = queued.slot;
     let s = state::slots::with_slot(state, i, next);
-    Reported {
-        state: s,
-        end: end,
-    }
+    Reported { state: s, end: end }
 }
 
 // What follows once the chain's flag is acknowledged.
-fn follow(ops: &mut [u32], at: usize, state: State, index: u8, incoming: bool, step: Step) -> Reported
+fn follow(
+    ops: &mut [u32],
+    at: usize,
+    state: State,
+    index: u8,
+    incoming: bool,
+    step: Step,
+) -> Reported
     requires { ⌜ at + records 6 ≤ length (now ops) ⌝ }
     ensures state { λ r. ⌜ r .state ≡ stateAfter state (slotNumber index incoming) incoming step ⌝ }
     ensures list { λ r. ⌜ Wrote (now (ops .entry)) at (opsAfter state index incoming step) (r .end) (now (ops .exit)) ⌝ }
@@ -103,10 +114,7 @@ fn follow(ops: &mut [u32], at: usize, state: State, index: u8, incoming: bool, s
         Step::Completes(slot) => {
             let i = state::slots::slot_number(index, incoming);
             let s = complete(state, i, slot);
-            Reported {
-                state: s,
-                end: at,
-            }
+            Reported { state: s, end: at }
         }
     }
 }

@@ -2,10 +2,13 @@
 ghost use mathlib.Core.Path.{_≡_};
 ghost use Rattle.sound.specs.Clauses.{inRam, aligned, multiple};
 ghost use Rattle.sound.specs.Sound.{soundb, driverSoundb, configb, useb, transferb, outb, busyClausesb, slotb, awaitedb, ownb, memoryb, slotsb, allocationsb};
+ghost use Rattle.sound.specs.Turn.{inTurn, admitted};
 use state::Awaited;
+use state::Check;
 use state::Driver;
 use state::EndpointConfig;
 use state::Events;
+use state::Refusal;
 use state::Slot;
 use state::State;
 
@@ -185,4 +188,24 @@ pub fn driver_sound(driver: Driver) -> bool
     let endpoints = allocations_sound(driver);
     let memory = memory_sound(driver.memory, driver.capacity, driver.used);
     endpoints & memory
+}
+
+// 26 and 24, which every call asks, before its further tests.
+pub fn in_turn(state: State, events: Events, further: Check) -> Check
+    ensures { λ r. ⌜ r ≡ inTurn state events further ⌝ }
+{
+    let awaited = state.awaited;
+    let next = awaited.next;
+    let good = sound(state, events);
+    let awaiting = state::readings::is_awaiting(next);
+    let turn = state::refusals::first(awaiting, Refusal::OutOfTurn, further);
+    state::refusals::first(!good, Refusal::Unsound, turn)
+}
+
+// The same of a call that is lent a list of so many numbers, with 10 before them.
+pub fn admit(room: usize, state: State, events: Events, further: Check) -> Check
+    ensures { λ r. ⌜ r ≡ admitted room state events further ⌝ }
+{
+    let turn = in_turn(state, events, further);
+    state::refusals::first(room < 640, Refusal::ListTooShort, turn)
 }

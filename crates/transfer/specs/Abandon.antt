@@ -1,6 +1,6 @@
 -- Abandoning a transfer (reference: the `OnDrop` of `run` in endpoint.rs).
 -- Assumes nothing.
-use Prim.Native.Nat.{ℕ}
+use Prim.Native.Nat.{ℕ, _≤_}
 use mathlib.Core.Path.{_≡_, refl}
 use mathlib.Core.Bool.{Bool, true, false, _&&_, not, cond}
 use mathlib.Core.List.{List, [], _∷_}
@@ -9,7 +9,6 @@ use Rattle.ops.specs.Ops.{Op}
 use Rattle.state.specs.declared.Slot.{Slot}
 use Rattle.state.specs.declared.State.{State}
 use Rattle.state.specs.declared.Events.{Events}
-use Rattle.state.specs.declared.Refusal.{Refusal}
 use Rattle.state.specs.declared.Refusal.the-variants.{ListTooShort, Unsound, OutOfTurn, NoDataEndpoint}
 use Rattle.state.specs.declared.Check.{Check}
 use Rattle.state.specs.declared.Check.the-variants.{Fits, Refused}
@@ -19,6 +18,7 @@ use Rattle.state.specs.Numbers.{refusalNumber}
 use Rattle.state.specs.Awaiting.{awaitingb}
 use Rattle.state.specs.Refusals.{Due, _if_, firstDue, Bound, bound}
 use Rattle.sound.specs.Sound.{soundb}
+use Rattle.sound.specs.Turn.{admitted-room}
 use Rattle.regs_endpoint.specs.Endpoint.{abortOps}
 use Rattle.transfer.specs.declared.AbandonAnswer.{AbandonAnswer}
 use Rattle.transfer.specs.declared.AbandonAnswer.the-variants as abandon
@@ -77,21 +77,30 @@ abandonTold Fits incoming busy = 0 ∷ settleTime incoming busy ∷ []
 abbrev pub abandonSays : State → Events → ℕ → Bool → ℕ → List ℕ
 abandonSays s v e incoming room = abandonTold (abandonCheck s v e room) incoming (busyb (slotAt s (slotNumber e incoming) .phase))
 
-pub abandon-numbers : (s : State) (v : Events) (e : ℕ) (incoming : Bool) (room : ℕ) → abandonNumbers (abandonAnswer s v e incoming room) ≡ abandonSays s v e incoming room
+-- an answer that is right has the right numbers
+pub abandon-numbers : (r : AbandonAnswer) (s : State) (v : Events) (e : ℕ) (incoming : Bool) (room : ℕ) → r ≡ abandonAnswer s v e incoming room
+    → abandonNumbers r ≡ abandonSays s v e incoming room
 unfolding abandonAnswer
-abandon-numbers s v e incoming room = go (abandonCheck s v e room) (slotAt s (slotNumber e incoming))
+abandon-numbers r s v e incoming room q = rw q (go (abandonCheck s v e room) (slotAt s (slotNumber e incoming)))
   where
     go : (c : Check) (x : Slot) → abandonNumbers (abandonAnswerAt c incoming x) ≡ abandonTold c incoming (busyb (x .phase))
     go Fits x = refl
     go (Refused r) x = refl
+
+-- one that fits was lent enough
+pub abandon-room : (s : State) (v : Events) (e room : ℕ) → abandonCheck s v e room ≡ Fits → 640 ≤ room
+unfolding abandonCheck
+abandon-room s v e room h = admitted-room room s v (firstDue (NoDataEndpoint if not (dataEndpoint e) ∷ [])) h
 
 -- Each refusal is given exactly where it is the first that is due, and none where none is.
 pub abandon-bound : (s : State) (v : Events) (e room : ℕ) → Bound (abandonDues s v e room) (abandonCheck s v e room)
 unfolding abandonCheck
 abandon-bound s v e room = bound (abandonDues s v e room)
 
--- A refused call leaves the state as it was and asks nothing of the registers.
-pub abandon-refused : (s : State) (v : Events) (e : ℕ) (incoming : Bool) (room : ℕ) (r : Refusal) → abandonCheck s v e room ≡ Refused r
-    → (abandonState s v e incoming room ≡ s) × (abandonOps s v e incoming room ≡ [])
-unfolding abandonState abandonOps
-abandon-refused s v e incoming room r h = (rw h, rw h)
+-- what a call comes to, by what its tests come to: a refused one leaves the state as it was, with no operation
+pub abandon-at : (s : State) (v : Events) (e : ℕ) (incoming : Bool) (room : ℕ) (c : Check) → abandonCheck s v e room ≡ c
+    → (abandonAnswerAt c incoming (slotAt s (slotNumber e incoming)) ≡ abandonAnswer s v e incoming room)
+    × ((abandonStateAt c s (slotNumber e incoming) (slotAt s (slotNumber e incoming)) ≡ abandonState s v e incoming room)
+    × (abandonOpsAt c e incoming (slotAt s (slotNumber e incoming)) ≡ abandonOps s v e incoming room))
+unfolding abandonAnswer abandonState abandonOps
+abandon-at s v e incoming room c h = (rw h, (rw h, rw h))

@@ -1,16 +1,17 @@
 -- Beginning a transfer (reference: `run` of endpoint.rs, `start` of device.rs).
 -- Assumes nothing.
-use Prim.Native.Nat.{ℕ, _+_, _%_, _^_}
+use Prim.Native.Nat.{ℕ, _+_, _%_, _^_, _≤_}
 use mathlib.Core.Path.{_≡_, refl}
 use mathlib.Core.Bool.{Bool, true, false, _&&_, _||_, not}
 use mathlib.Core.List.{List, [], _∷_, _++_}
+use native.Mathlib.Omega.{arith}
 use lib.Dec.{leb, ltb}
-use Rattle.ops.specs.Ops.{Op}
+use lib.ListN.{length, length-append}
+use Rattle.ops.specs.Ops.{Op, flat, flat-append, records}
 use Rattle.state.specs.declared.Phase.the-variants.{Busy}
 use Rattle.state.specs.declared.Slot.{Slot}
 use Rattle.state.specs.declared.State.{State}
 use Rattle.state.specs.declared.Events.{Events}
-use Rattle.state.specs.declared.Refusal.{Refusal}
 use Rattle.state.specs.declared.Refusal.the-variants.{ListTooShort, Unsound, OutOfTurn, NoDataEndpoint, Disabled, InHand, UnfitBuffer}
 use Rattle.state.specs.declared.Check.{Check}
 use Rattle.state.specs.declared.Check.the-variants.{Fits, Refused}
@@ -19,14 +20,13 @@ use Rattle.state.specs.Fresh.{slotAt}
 use Rattle.state.specs.Numbers.{refusalNumber, checkNumber}
 use Rattle.state.specs.Awaiting.{awaitingb}
 use Rattle.state.specs.Refusals.{Due, _if_, firstDue, Bound, bound}
-use Rattle.state.specs.Waking.{noWakes}
 use Rattle.sound.specs.Clauses.{inRam, aligned, multiple}
 use Rattle.sound.specs.Sound.{soundb}
-use Rattle.chains.specs.Chains.{chainLimit, slotSize, queuedSlot, queueOps}
-use Rattle.window.specs.Window.{windowsOps}
+use Rattle.sound.specs.Turn.{admitted-room}
+use Rattle.chains.specs.Chains.{chainLimit, slotSize, queuedSlot, queueOps, queue-most}
+use Rattle.window.specs.Window.{windowsOps, windows-room}
 use Rattle.transfer.specs.declared.BeginAnswer.{BeginAnswer}
 use Rattle.transfer.specs.declared.BeginAnswer.the-variants as begin
-use Rattle.transfer.specs.declared.BeginResult.{BeginResult}
 
 -- the endpoints that have transfers
 abbrev pub dataEndpoint : ℕ → Bool
@@ -37,6 +37,9 @@ pub record Piece : Type 0 where
   pub address : ℕ
   pub length : ℕ
   pub flag : Bool
+
+abbrev pub piece : ℕ → ℕ → Bool → Piece
+piece address length flag = record { address = address; length = length; flag = flag }
 
 -- refusal 8: in RAM, at a multiple of 4, and for OUT room for whole packets, at least one
 abbrev pub pieceFits : Bool → ℕ → Piece → Bool
@@ -123,22 +126,45 @@ abbrev pub beginNumber : BeginAnswer → ℕ
 beginNumber begin.Begun = 0
 beginNumber (begin.Refused r) = refusalNumber r
 
-pub begin-number : (s : State) (v : Events) (e : ℕ) (incoming : Bool) (p : Piece) (room : ℕ)
-    → beginNumber (beginAnswer s v e incoming p room) ≡ checkNumber (beginCheck s v e incoming p room)
+-- an answer that is right has the right number
+pub begin-number : (r : BeginAnswer) (s : State) (v : Events) (e : ℕ) (incoming : Bool) (p : Piece) (room : ℕ) → r ≡ beginAnswer s v e incoming p room
+    → beginNumber r ≡ checkNumber (beginCheck s v e incoming p room)
 unfolding beginAnswer
-begin-number s v e incoming p room = go (beginCheck s v e incoming p room)
+begin-number r s v e incoming p room q = rw q (go (beginCheck s v e incoming p room))
   where
     go : (c : Check) → beginNumber (beginAnswerAt c) ≡ checkNumber c
     go Fits = refl
     go (Refused r) = refl
+
+-- whether a piece fits doesn't hang on the flag
+pub flag-free : (s : State) (v : Events) (e : ℕ) (incoming : Bool) (a l : ℕ) (f g : Bool) (room : ℕ)
+    → beginCheck s v e incoming (piece a l f) room ≡ beginCheck s v e incoming (piece a l g) room
+unfolding beginCheck
+flag-free s v e true a l f g room = refl
+flag-free s v e false a l f g room = refl
+
+-- a begin that fits was lent enough
+pub begin-room : (s : State) (v : Events) (e : ℕ) (incoming : Bool) (p : Piece) (room : ℕ) → beginCheck s v e incoming p room ≡ Fits → 640 ≤ room
+unfolding beginCheck
+begin-room s v e incoming p room h = admitted-room room s v (firstDue (slotDues (s .powered) e incoming (slotAt s (slotNumber e incoming)) p)) h
+
+-- twelve records at most
+pub begun-most : (s : State) (e : ℕ) (incoming : Bool) (p : Piece) → length (flat (begunOps s e incoming p)) ≤ records 12
+begun-most s e incoming p =
+    let y = begunAt s e incoming p in
+    let s₁ = withSlot s (slotNumber e incoming) y in
+    let a = windowsOps s₁ in
+    let b = queueOps chainLimit e incoming y in
+    rw (flat-append a b, length-append (flat a) (flat b)) (omega (arith, windows-room s₁, queue-most chainLimit e incoming y))
 
 -- Each refusal is given exactly where it is the first that is due, and none where none is.
 pub begin-bound : (s : State) (v : Events) (e : ℕ) (incoming : Bool) (p : Piece) (room : ℕ) → Bound (beginDues s v e incoming p room) (beginCheck s v e incoming p room)
 unfolding beginCheck
 begin-bound s v e incoming p room = bound (beginDues s v e incoming p room)
 
--- A refused begin leaves the state as it was and asks nothing of the registers.
-pub begin-refused : (s : State) (v : Events) (e : ℕ) (incoming : Bool) (p : Piece) (room : ℕ) (r : Refusal) → beginCheck s v e incoming p room ≡ Refused r
-    → (beginState s v e incoming p room ≡ s) × (beginOps s v e incoming p room ≡ [])
-unfolding beginState beginOps
-begin-refused s v e incoming p room r h = (rw h, rw h)
+-- what a begin comes to, by what its tests come to: a refused one leaves the state as it was, with no operation
+pub begin-at : (s : State) (v : Events) (e : ℕ) (incoming : Bool) (p : Piece) (room : ℕ) (c : Check) → beginCheck s v e incoming p room ≡ c
+    → (beginAnswerAt c ≡ beginAnswer s v e incoming p room)
+    × ((beginStateAt c s e incoming p ≡ beginState s v e incoming p room) × (beginOpsAt c s e incoming p ≡ beginOps s v e incoming p room))
+unfolding beginAnswer beginState beginOps
+begin-at s v e incoming p room c h = (rw h, (rw h, rw h))

@@ -8,7 +8,6 @@ use Rattle.state.specs.declared.Phase.the-variants.{Idle}
 use Rattle.state.specs.declared.Slot.{Slot}
 use Rattle.state.specs.declared.State.{State}
 use Rattle.state.specs.declared.Events.{Events}
-use Rattle.state.specs.declared.Refusal.{Refusal}
 use Rattle.state.specs.declared.Refusal.the-variants.{Unsound, OutOfTurn, NoDataEndpoint, Disabled}
 use Rattle.state.specs.declared.Check.{Check}
 use Rattle.state.specs.declared.Check.the-variants.{Fits, Refused}
@@ -24,13 +23,15 @@ use Rattle.transfer.specs.declared.TakeAnswer.the-variants as take
 use Rattle.transfer.specs.declared.TakeResult.{TakeResult}
 use Rattle.transfer.specs.Begin.{dataEndpoint}
 
+-- 7 and 22, of a slot that is idle or not
+abbrev pub waitingDues : ℕ → Bool → List Due
+waitingDues e idle = NoDataEndpoint if not (dataEndpoint e) ∷ Disabled if idle ∷ []
+
 abbrev pub takeDues : State → Events → ℕ → Bool → List Due
 takeDues s v e incoming =
     Unsound if not (soundb s v)
     ∷ OutOfTurn if awaitingb (s .awaited .next)
-    ∷ NoDataEndpoint if not (dataEndpoint e)
-    ∷ Disabled if idleb (slotAt s (slotNumber e incoming) .phase)
-    ∷ []
+    ∷ waitingDues e (idleb (slotAt s (slotNumber e incoming) .phase))
 
 unfoldable pub takeCheck : State → Events → ℕ → Bool → Check
 takeCheck s v e incoming = firstDue (takeDues s v e incoming)
@@ -102,7 +103,8 @@ pub take-bound : (s : State) (v : Events) (e : ℕ) (incoming : Bool) → Bound 
 unfolding takeCheck
 take-bound s v e incoming = bound (takeDues s v e incoming)
 
--- A refused take leaves the state as it was.
-pub take-refused : (s : State) (v : Events) (e : ℕ) (incoming : Bool) (r : Refusal) → takeCheck s v e incoming ≡ Refused r → takeResult s v e incoming .state ≡ s
+-- what a take comes to, by what its tests come to: a refused one leaves the state as it was
+pub take-at : (s : State) (v : Events) (e : ℕ) (incoming : Bool) (c : Check) → takeCheck s v e incoming ≡ c
+    → takeAt c s (slotNumber e incoming) (slotAt s (slotNumber e incoming)) ≡ takeResult s v e incoming
 unfolding takeResult
-take-refused s v e incoming r h = rw h
+take-at s v e incoming c h = rw h

@@ -43,3 +43,7 @@ windows-most s window n = upTo-most (windowAt s window) (records 1) (λ e. one (
     one : (b : Bool) (e : ℕ) → length (flat (cond b (windowOps e window) [])) ≤ records 1
     one true e = omega arith
     one false e = omega arith
+
+pub windows-room : (s : State) → length (flat (windowsOps s)) ≤ records 7
+unfolding windowsOps
+windows-room s = windows-most s (outWindow s) 7
