@@ -1,19 +1,33 @@
 -- Document 01's starred edges: each row has what the definitions give, and what the paper says.
 -- Assumes nothing.
 use Prim.Native.Nat.{ℕ}
-use mathlib.Core.Bool.{true, false}
-use mathlib.Core.List.{List, [], _∷_, map}
+use mathlib.Core.Bool.{Bool, true, false, cond}
+use mathlib.Core.List.{List, [], _∷_, _++_, map}
 use mathlib.Core.Path.{_≡_, refl}
+use lib.Dec.{eqb}
+use lib.ListN.{set}
+use Rattle.ops.specs.Numbers.{tx-chain-exp-nump, tx-chain-len}
+use Rattle.ops.specs.Ops.{Op, write, modify, modifyIfDiffers, wait, clearBits, Setting, _≔_, bit}
+use Rattle.ops.specs.Sequence.{upTo}
+use Rattle.state.specs.declared.Phase.the-variants.{Idle}
+use Rattle.state.specs.declared.State.{State}
+use Rattle.state.specs.declared.Events.{Events}
+use Rattle.state.specs.Fresh.{freshSlot, freshState, slotAt}
+use Rattle.state.specs.Slots.{busyb, slotNumber, stateWith}
 use Rattle.state.specs.declared.EndpointType.{EndpointType}
 use Rattle.state.specs.declared.EndpointType.the-variants.{Bulk, Interrupt}
 use Rattle.state.specs.declared.EndpointRequest.{EndpointRequest}
 use Rattle.state.specs.declared.Driver.{Driver}
-use Rattle.state.specs.Each.{every}
+use Rattle.state.specs.Each.{every, count}
 use Rattle.events.specs.Pending.{suspend, resume}
 use Rattle.events.specs.Events.{raiseEvents, pollAnswer, pollNumbers}
-use Rattle.sound.specs.Sound.{driverSoundb}
+use Rattle.sound.specs.Sound.{driverSoundb, soundb}
 use Rattle.allocate.specs.Rules.{lowest}
 use Rattle.allocate.specs.Allocate.{newCheck, newResult, newNumber, allocateCheck, placed, allocateResult, allocateNumbers}
+use Rattle.chains.specs.Chains.{chainPackets, chainBytes}
+use Rattle.window.specs.Window.{outWindow, windowsOps}
+use Rattle.transfer.specs.Begin.{Piece, piece, beginCheck, beginState, beginOps}
+use Rattle.report.specs.Report.{inReportOps, outReportState}
 
 -- numbers as answers have them: a refusal's, or 0 and then the values
 pub record Edge : Type 0 where
@@ -56,6 +70,67 @@ made address length = newNumber (newResult address length .answer) ∷ []
 abbrev polled : ℕ → List ℕ
 polled events = pollNumbers (pollAnswer events)
 
+-- a powered device with endpoint 1 enabled, M 1024, its own buffer at the start of RAM
+abbrev ready : Bool → State
+ready incoming =
+    stateWith freshState
+    (set (freshState .endpoints) (slotNumber 1 incoming)
+    (record {
+      configured = true;
+      config =
+          record {
+            index = 1;
+            incoming = incoming;
+            «ep_type» = Bulk;
+            «max_packet_size» = 1024;
+            «interval_ms» = 0;
+            «max_burst» = 0;
+            buffer = record { address = 0x200A0000; size = 1024 };
+          };
+      enabled = true;
+      stalled = false;
+      phase = Idle;
+      transfer = freshSlot .transfer;
+      tally = freshSlot .tally;
+    }))
+    0 true false
+
+abbrev nothingPending : Events
+nothingPending = record { events = 0 }
+
+-- a transfer of so many bytes, begun on it
+abbrev asked : ℕ → Piece
+asked bytes = piece 0x200A0400 bytes false
+
+abbrev begunWith : Bool → ℕ → State
+begunWith incoming bytes = beginState (ready incoming) nothingPending 1 incoming (asked bytes) 640
+
+abbrev begunBy : ℕ → List Op
+begunBy bytes = beginOps (ready true) nothingPending 1 true (asked bytes) 640
+
+-- the values that operations write to a register as a whole or to its first field
+abbrev valueOf : Setting → ℕ
+valueOf (f ≔ v) = v
+
+abbrev written : ℕ → List Op → List ℕ
+written r [] = []
+written r (write q i s ss ∷ os) = cond (eqb r q) (valueOf s ∷ written r os) (written r os)
+written r (modify q i s ss ∷ os) = written r os
+written r (modifyIfDiffers q i s ∷ os) = written r os
+written r (wait n ∷ os) = written r os
+written r (clearBits q i s ∷ os) = written r os
+
+-- packets and last length of an IN chain, as the registers get them
+abbrev chain : List Op → List ℕ
+chain os = written tx-chain-exp-nump os ++ written tx-chain-len os
+
+-- how far an OUT transfer has come, and whether it goes on
+abbrev received : State → List ℕ
+received s = slotAt s (slotNumber 1 false) .transfer .progress ∷ bit (busyb (slotAt s (slotNumber 1 false) .phase)) ∷ []
+
+abbrev afterReport : State
+afterReport = outReportState (begunWith false 4096) 1 2 1024
+
 abbrev pub edges : List Edge
 edges =
     -- memory 0x200A0001: 515 bytes accepted, 514 gives 2
@@ -73,11 +148,23 @@ edges =
     ∷ given (afterInterrupt 1540) (ask Bulk 1024 0) gives (0 ∷ 2 ∷ 0x200A0204 ∷ 1024 ∷ [])
     -- 1539 gives 21
     ∷ given (afterInterrupt 1539) (ask Bulk 1024 0) gives (21 ∷ [])
+    -- M 1024, L 0: packets 1, last 0
+    ∷ chain (begunBy 0) gives (1 ∷ 0 ∷ [])
+    -- 1025: 2, 1
+    ∷ chain (begunBy 1025) gives (2 ∷ 1 ∷ [])
+    -- 261120: 255, 1024
+    ∷ chain (begunBy 261120) gives (255 ∷ 1024 ∷ [])
+    -- 261121: a second chain 1, 1
+    ∷ chain (inReportOps (begunWith true 261121) 1) gives (1 ∷ 1 ∷ [])
+    -- OUT L 4096: report (2, 1024) gives 2048, on
+    ∷ received afterReport gives (2048 ∷ 1 ∷ [])
+    -- then (9, 100) gives 3172, done
+    ∷ received (outReportState afterReport 1 9 100) gives (3172 ∷ 0 ∷ [])
     -- SUSPEND, RESUME: none pending
     ∷ polled (raiseEvents (raiseEvents 0 suspend) resume) gives (0 ∷ 0 ∷ [])
     ∷ (raiseEvents (raiseEvents 0 suspend) resume ∷ []) gives (0 ∷ [])
     ∷ []
 
 pub starred : map (λ (e : Edge). e .found) edges ≡ map (λ (e : Edge). e .paper) edges
-unfolding every driverSoundb lowest newCheck newResult allocateCheck placed allocateResult
+unfolding every count driverSoundb soundb lowest newCheck newResult allocateCheck placed allocateResult chainPackets chainBytes upTo outWindow windowsOps beginCheck beginState beginOps inReportOps outReportState
 starred = refl
