@@ -1,0 +1,60 @@
+-- A number of 32 bits has no more than ten digits. Assumes nothing.
+use Prim.Native.Nat.{ℕ, _-_, _^_, _≤_, _<_}
+use mathlib.Core.Bool.{Bool, true, false}
+use mathlib.Core.Path.{_≡_, refl}
+use native.Mathlib.Nat.{pow-le-pow-right}
+use borrow.Author.Tests.{leb-true, leb-false}
+use lib.Dec.{leb}
+use Rattle.io.specs.Digits.{Fewest}
+use native.Mathlib.Omega.{arith}
+use lib.ListN.{length, take}
+use borrow.Author.Needs.{needs}
+use Rattle.listing.proofs.print.put_number.Statement.{statement}
+use Rattle.listing.proofs.print.put_number.Tie as tie
+
+decimal-requires : tie.Need-decimal-requires
+decimal-requires c κs = search needs
+
+ten-digits : (n k : ℕ) → n < 2 ^ 32 → Fewest 10 1 n k → k ≤ 10
+ten-digits n k small few = go (leb k 10) refl
+  where
+    go : (t : Bool) → leb k 10 ≡ t → k ≤ 10
+    go true e = leb-true k 10 e
+    go false e =
+        let more : 10 < k = leb-false k 10 e in
+        let large : 10 ^ 10 ≤ 10 ^ (k - 1) = pow-le-pow-right {n = 10} (omega arith) {i = 10} {j = k - 1} (omega arith) in
+        omega (arith, small, large, few .2 (omega arith))
+
+few : (c : tie.After-decimal) → length (take (c .decimal .result) (c .decimal .last .1 .0)) ≤ 10
+few c =
+    let d = c .decimal .ensures in
+    let n = c .before .before .before .args .n in
+    omega (arith, ten-digits n (c .decimal .result) (c .before .before .before .fits .n .fits) (d .1 .0), d .0)
+
+array-share-prefix-digits : tie.Need-array-share-prefix-digits
+array-share-prefix-digits c = search needs
+
+slice-aggregate-put : tie.Need-slice-aggregate-put
+slice-aggregate-put c = search needs
+
+put-requires : tie.Need-put-requires
+put-requires c κs = omega (arith, few (c .before .before))
+
+same-length : tie.Need-same-length
+same-length c = search needs
+
+returns : tie.Need-returns
+returns c =
+    let p = c .before .before in
+    omega (arith, p .put .ensures, few (p .before .before .before))
+
+pub put-number-spec : {M : Type 1} → statement M
+put-number-spec =
+    tie.close
+    (tie.spec
+    decimal-requires
+    array-share-prefix-digits
+    slice-aggregate-put
+    put-requires
+    same-length
+    returns)

@@ -1,0 +1,96 @@
+// What the program prints. A line's text is put together in a buffer and written at once.
+ghost use Prim.Native.Nat.{_+_, _≤_};
+ghost use mathlib.Core.Path.{_≡_};
+ghost use lib.ListN.{length};
+ghost use Rattle.ops.specs.Ops.{records};
+use libc::STDOUT_FILENO;
+
+pub fn header() {
+    io::write_all(STDOUT_FILENO, b"kind\tregister\tindex\tfield\tvalue\n");
+}
+
+pub fn refused(refusal: u32) {
+    let mut text = [0u8; 40];
+    let a = put(&mut text, 0, b"refused\t");
+    let b = put_number(&mut text, a, refusal);
+    let end = put(&mut text, b, b"\n");
+    io::write_all(STDOUT_FILENO, &text[0..end]);
+}
+
+pub fn done(index: u32, progress: u32) {
+    let mut text = [0u8; 40];
+    let a = put(&mut text, 0, b"0\tdone\t");
+    let b = put_number(&mut text, a, index);
+    let c = put(&mut text, b, b"\tprogress\t");
+    let d = put_number(&mut text, c, progress);
+    let end = put(&mut text, d, b"\n");
+    io::write_all(STDOUT_FILENO, &text[0..end]);
+}
+
+// The records in the first `end` numbers of a list.
+pub fn operations(list: &[u32], end: usize) {
+    let mut at: usize = 0;
+    while at < end {
+        if list.len() - at < ops::WIDTH {
+            return;
+        }
+        operation(list, at);
+        at = at + ops::WIDTH;
+    }
+}
+
+fn operation(list: &[u32], at: usize)
+    requires { ⌜ at + records 1 ≤ length (now list) ⌝ }
+{
+    let mut text = [0u8; 80];
+    let a = number_cell(&mut text, 0, list[at]);
+    let b = register_cell(&mut text, a, list[at + 1]);
+    let c = number_cell(&mut text, b, list[at + 2]);
+    let d = field_cell(&mut text, c, list[at + 3]);
+    let e = put_number(&mut text, d, list[at + 4]);
+    let end = put(&mut text, e, b"\n");
+    io::write_all(STDOUT_FILENO, &text[0..end]);
+}
+
+fn number_cell(text: &mut [u8], at: usize, n: u32) -> usize
+    requires { ⌜ at + 11 ≤ length (now text) ⌝ }
+    ensures { λ r. ⌜ r ≤ at + 11 ⌝ }
+{
+    let end = put_number(text, at, n);
+    put(text, end, b"\t")
+}
+
+fn register_cell(text: &mut [u8], at: usize, register: u32) -> usize
+    requires { ⌜ at + 21 ≤ length (now text) ⌝ }
+    ensures { λ r. ⌜ r ≤ at + 21 ⌝ }
+{
+    let end = names::register_name(text, at, register);
+    put(text, end, b"\t")
+}
+
+fn field_cell(text: &mut [u8], at: usize, field: u32) -> usize
+    requires { ⌜ at + 21 ≤ length (now text) ⌝ }
+    ensures { λ r. ⌜ r ≤ at + 21 ⌝ }
+{
+    let end = names::field_name(text, at, field);
+    put(text, end, b"\t")
+}
+
+// A number's digits, put into the text at `at`: where they end.
+fn put_number(text: &mut [u8], at: usize, n: u32) -> usize
+    requires { ⌜ at + 10 ≤ length (now text) ⌝ }
+    ensures { λ r. ⌜ r ≤ at + 10 ⌝ }
+{
+    let mut digits = [0u8; 20];
+    let count = io::decimal(n as u64, &mut digits);
+    put(text, at, &digits[..count])
+}
+
+// Bytes, likewise.
+fn put(text: &mut [u8], at: usize, bytes: &[u8]) -> usize
+    requires { ⌜ at + length (now bytes) ≤ length (now text) ⌝ }
+    ensures { λ r. ⌜ r ≡ at + length (now (bytes .entry)) ⌝ }
+{
+    let n = bytes::copy(bytes, &mut text[at..]);
+    at + n
+}
