@@ -1,4 +1,5 @@
 pub mod Slots
+pub mod Stored
 pub mod Tally
 pub mod Fresh
 pub mod Numbers

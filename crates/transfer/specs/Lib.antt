@@ -1,3 +1,4 @@
 pub mod Begin
 pub mod Take
 pub mod Abandon
+pub mod Keeps
