@@ -1,7 +1,7 @@
 // The lines of standard input, through a buffer. A line that doesn't leave the buffer a free byte can't be read.
 ghost use Prim.Native.Nat.{_+_, _≤_, _<_};
 ghost use lib.ListN.{length};
-use super::print;
+use super::answers;
 use super::run;
 use libc::STDIN_FILENO;
 
@@ -68,7 +68,7 @@ fn after(kept: usize, skipping: bool, room: usize) -> Input
         };
     }
     if room <= kept {
-        print::refused(0);
+        answers::refused(0);
         return Input {
             held: 0,
             skipping: true,

@@ -2,7 +2,7 @@
 ghost use Prim.Native.Nat.{_≤_};
 ghost use lib.ListN.{length};
 ghost use Rattle.ops.specs.Ops.{records};
-use super::print;
+use super::answers;
 use lines::Line;
 use lines::Request;
 use report::Reported;
@@ -17,7 +17,7 @@ use transfer::BeginAnswer;
 pub fn line(text: &[u8]) {
     let read = lines::read_line(text);
     match read {
-        Line::Unreadable => print::refused(0),
+        Line::Unreadable => answers::refused(0),
         Line::Readable(request) => run_transfer(request),
     }
 }
@@ -43,7 +43,7 @@ fn run_transfer(request: Request) {
     match answer {
         BeginAnswer::Refused(refusal) => {
             let number = state::refusals::refusal_number(refusal);
-            print::refused(number);
+            answers::refused(number);
         }
         BeginAnswer::Begun => {
             print::operations(&list, begun.end);
@@ -107,7 +107,7 @@ fn reports(list: &mut [u32], begun: State, index: u8, request: Request)
         let phase = slot.phase;
         let busy = state::slots::is_busy(phase);
         if !busy {
-            print::done(index as u32, slot.transfer.progress);
+            answers::done(index as u32, slot.transfer.progress);
             return;
         }
         let reported = report_chain(list, state, index, request);

@@ -6,7 +6,7 @@ ghost use Rattle.ops.specs.Ops.{records};
 ghost use Rattle.ops.specs.Wrote.{Wrote};
 ghost use Rattle.state.specs.Slots.{slotNumber, withSlot};
 ghost use Rattle.report.specs.declared.Step.the-variants.{GoesOn};
-ghost use Rattle.report.specs.Report.{stepOf, inStep, outStep, doneSlot, woken, stateAfter, opsAfter, inReportState, inReportOps, outReportState, outReportOps};
+ghost use Rattle.report.specs.Report.{stepOf, inStep, outStep, doneSlot, woken, stateAfter, opsAfter, reportOps, inReportState, inReportOps, outReportState, outReportOps};
 use chains::CHAIN_PACKETS;
 use state::Phase;
 use state::Slot;
@@ -92,7 +92,7 @@ fn go_on(
     Reported { state: s, end: end }
 }
 
-// What follows once the chain's flag is acknowledged.
+// The next chain, or the end of the transfer, or nothing.
 fn follow(
     ops: &mut [u32],
     at: usize,
@@ -119,17 +119,33 @@ fn follow(
     }
 }
 
+// The chain's flag is acknowledged, then follows what the step asks for.
+fn acknowledge(
+    ops: &mut [u32],
+    at: usize,
+    state: State,
+    index: u8,
+    incoming: bool,
+    step: Step,
+) -> Reported
+    requires { ⌜ at + records 7 ≤ length (now ops) ⌝ }
+    ensures state { λ r. ⌜ r .state ≡ stateAfter state (slotNumber index incoming) incoming step ⌝ }
+    ensures list { λ r. ⌜ Wrote (now (ops .entry)) at (reportOps state index incoming step) (r .end) (now (ops .exit)) ⌝ }
+{
+    let a = regs_endpoint::chain_ack(ops, at, index as u32, incoming);
+    follow(ops, a, state, index, incoming, step)
+}
+
 // The end of an IN chain.
 pub fn report_in(ops: &mut [u32], at: usize, state: State, index: u8) -> Reported
     requires { ⌜ at + records 7 ≤ length (now ops) ⌝ }
     ensures state { λ r. ⌜ r .state ≡ inReportState state index ⌝ }
     ensures list { λ r. ⌜ Wrote (now (ops .entry)) at (inReportOps state index) (r .end) (now (ops .exit)) ⌝ }
 {
-    let a = regs_endpoint::chain_ack(ops, at, index as u32, true);
     let i = state::slots::slot_number(index, true);
     let slot = state::slots::slot_at(state, i);
     let step = in_step(slot);
-    follow(ops, a, state, index, true, step)
+    acknowledge(ops, at, state, index, true, step)
 }
 
 // The end of an OUT chain: so many packets, the last of them `last` bytes long.
@@ -145,9 +161,8 @@ pub fn report_out(
     ensures state { λ r. ⌜ r .state ≡ outReportState state index packets last ⌝ }
     ensures list { λ r. ⌜ Wrote (now (ops .entry)) at (outReportOps state index packets last) (r .end) (now (ops .exit)) ⌝ }
 {
-    let a = regs_endpoint::chain_ack(ops, at, index as u32, false);
     let i = state::slots::slot_number(index, false);
     let slot = state::slots::slot_at(state, i);
     let step = out_step(slot, packets, last);
-    follow(ops, a, state, index, false, step)
+    acknowledge(ops, at, state, index, false, step)
 }

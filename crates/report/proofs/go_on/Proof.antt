@@ -2,7 +2,7 @@
 use borrow.Author.Needs.{needs}
 use native.Mathlib.Omega.{arith}
 use Rattle.ops.specs.Wrote.{_▹_}
-use Rattle.chains.specs.Chains.{queue-most}
+use Rattle.chains.specs.Chains.{chainLimit, queue-most}
 use Rattle.report.proofs.go_on.Statement.{statement}
 use Rattle.report.proofs.go_on.Tie as tie
 
@@ -16,7 +16,7 @@ set-own-window-requires : tie.Need-set-own-window-requires
 set-own-window-requires c κs =
     let q = c .before .before .before in
     let a = q .before .before .before .before .args in
-    omega (arith, q .queue .ensures .1 .end, queue-most 255 (a .index) (a .incoming) (a .slot))
+    omega (arith, q .queue .ensures .1 .end, queue-most chainLimit (a .index) (a .incoming) (a .slot))
 
 with-slot-requires : tie.Need-with-slot-requires
 with-slot-requires c κs = search needs

@@ -1,19 +1,8 @@
--- `report_out`: the acknowledgement, then what follows. Assumes nothing.
+-- `report_out`: by the step that the slot is at. Assumes nothing.
 use borrow.Author.Needs.{needs}
-use mathlib.Core.Path.{_≡_}
-use mathlib.Core.Bool.{false}
-use Rattle.ops.specs.Wrote.{_▹_}
-use Rattle.state.specs.Slots.{slotNumber}
-use Rattle.state.specs.Fresh.{slotAt}
-use Rattle.report.specs.Report.{outStep, outReportState, outReportOps}
+use Rattle.report.specs.Report.{outReportState, outReportOps}
 use Rattle.report.proofs.report_out.Statement.{statement}
 use Rattle.report.proofs.report_out.Tie as tie
-
-stepped : (c : tie.After-out-step) → c .out-step .result ≡ outStep (slotAt (c .before .before .before .before .before .before .before .before .args .state) (slotNumber (c .before .before .before .before .before .before .before .before .args .index) false)) (c .before .before .before .before .before .before .before .before .args .packets) (c .before .before .before .before .before .before .before .before .args .last)
-stepped c = rw (c .out-step .ensures, c .before .slot-at .ensures, c .before .before .slot-number .ensures)
-
-chain-ack-requires : tie.Need-chain-ack-requires
-chain-ack-requires c κs = search needs
 
 slot-number-requires : tie.Need-slot-number-requires
 slot-number-requires c κs = search needs
@@ -24,8 +13,8 @@ slot-at-requires c κs = search needs
 out-step-requires : tie.Need-out-step-requires
 out-step-requires c κs = search needs
 
-follow-requires : tie.Need-follow-requires
-follow-requires c κs = search needs
+acknowledge-requires : tie.Need-acknowledge-requires
+acknowledge-requires c κs = search needs
 
 same-length : tie.Need-same-length
 same-length c = search needs
@@ -33,20 +22,18 @@ same-length c = search needs
 returns : tie.Need-returns
 unfolding outReportState outReportOps
 returns c =
-    let f = c .before .before in
-    let k = f .before .before in
-    let ack = k .before .before .before .before .before in
-    let told = rw (stepped k) at (f .follow .ensures) in
-    (told .0, ack .chain-ack .ensures ▹ told .1)
+    let a = c .before .before in
+    let k = a .before .before in
+    let x = k .before in
+    rw (k .out-step .ensures, x .slot-at .ensures, x .before .slot-number .ensures) at (a .acknowledge .ensures)
 
 pub report-out-spec : {M : Type 1} → statement M
 report-out-spec =
     tie.close
     (tie.spec
-    chain-ack-requires
     slot-number-requires
     slot-at-requires
     out-step-requires
-    follow-requires
+    acknowledge-requires
     same-length
     returns)

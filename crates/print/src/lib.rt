@@ -1,4 +1,5 @@
-// What the program prints. A line's text is put together in a buffer and written at once.
+// Prints records of register operations, registers and fields by name. A line's text is put together in a buffer and
+// written at once.
 ghost use Prim.Native.Nat.{_+_, _≤_};
 ghost use mathlib.Core.Path.{_≡_};
 ghost use lib.ListN.{length};
@@ -7,24 +8,6 @@ use libc::STDOUT_FILENO;
 
 pub fn header() {
     io::write_all(STDOUT_FILENO, b"kind\tregister\tindex\tfield\tvalue\n");
-}
-
-pub fn refused(refusal: u32) {
-    let mut text = [0u8; 40];
-    let a = put(&mut text, 0, b"refused\t");
-    let b = put_number(&mut text, a, refusal);
-    let end = put(&mut text, b, b"\n");
-    io::write_all(STDOUT_FILENO, &text[0..end]);
-}
-
-pub fn done(index: u32, progress: u32) {
-    let mut text = [0u8; 40];
-    let a = put(&mut text, 0, b"0\tdone\t");
-    let b = put_number(&mut text, a, index);
-    let c = put(&mut text, b, b"\tprogress\t");
-    let d = put_number(&mut text, c, progress);
-    let end = put(&mut text, d, b"\n");
-    io::write_all(STDOUT_FILENO, &text[0..end]);
 }
 
 // The records in the first `end` numbers of a list.
@@ -77,7 +60,7 @@ fn field_cell(text: &mut [u8], at: usize, field: u32) -> usize
 }
 
 // A number's digits, put into the text at `at`: where they end.
-fn put_number(text: &mut [u8], at: usize, n: u32) -> usize
+pub fn put_number(text: &mut [u8], at: usize, n: u32) -> usize
     requires { ⌜ at + 10 ≤ length (now text) ⌝ }
     ensures { λ r. ⌜ r ≤ at + 10 ⌝ }
 {
@@ -87,7 +70,7 @@ fn put_number(text: &mut [u8], at: usize, n: u32) -> usize
 }
 
 // Bytes, likewise.
-fn put(text: &mut [u8], at: usize, bytes: &[u8]) -> usize
+pub fn put(text: &mut [u8], at: usize, bytes: &[u8]) -> usize
     requires { ⌜ at + length (now bytes) ≤ length (now text) ⌝ }
     ensures { λ r. ⌜ r ≡ at + length (now (bytes .entry)) ⌝ }
 {

@@ -1,9 +1,9 @@
 -- No record past the list is read, and the loop ends. Assumes nothing.
-use borrow.Author.Needs.{needs}
-use Prim.Native.Nat.{_≤_, _-_}
+use Prim.Native.Nat.{_-_, _≤_}
 use lib.ListN.{length}
-use Rattle.power_on_sequence.proofs.lines.Statement.{statement}
-use Rattle.power_on_sequence.proofs.lines.Tie as tie
+use borrow.Author.Needs.{needs}
+use Rattle.print.proofs.operations.Statement.{statement}
+use Rattle.print.proofs.operations.Tie as tie
 
 abbrev Inv-loop : tie.InvT-loop
 Inv-loop list end at₀ at = at ≤ length list
@@ -20,8 +20,8 @@ sub-if1 c = search needs
 returns : tie.Need-returns Inv-loop μ-loop
 returns c = search needs
 
-line-requires : tie.Need-line-requires Inv-loop μ-loop
-line-requires c κs = search needs
+operation-requires : tie.Need-operation-requires Inv-loop μ-loop
+operation-requires c κs = search needs
 
 add-at : tie.Need-add-at Inv-loop μ-loop
 add-at c = search needs
@@ -35,8 +35,8 @@ loop-again c = search needs
 returns-2 : tie.Need-returns-2 Inv-loop μ-loop
 returns-2 c = search needs
 
-pub lines-spec : {M : Type 1} → statement M
-lines-spec =
+pub operations-spec : {M : Type 1} → statement M
+operations-spec =
     tie.close
     (tie.spec
     Inv-loop
@@ -44,7 +44,7 @@ lines-spec =
     loop-holds
     sub-if1
     returns
-    line-requires
+    operation-requires
     add-at
     loop-less
     loop-again

@@ -9,8 +9,8 @@ use Rattle.io.specs.Digits.{Fewest}
 use native.Mathlib.Omega.{arith}
 use lib.ListN.{length, take}
 use borrow.Author.Needs.{needs}
-use Rattle.listing.proofs.print.put_number.Statement.{statement}
-use Rattle.listing.proofs.print.put_number.Tie as tie
+use Rattle.print.proofs.put_number.Statement.{statement}
+use Rattle.print.proofs.put_number.Tie as tie
 
 decimal-requires : tie.Need-decimal-requires
 decimal-requires c κs = search needs
