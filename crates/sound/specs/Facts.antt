@@ -17,6 +17,8 @@ use Rattle.state.specs.declared.Events.{Events}
 use Rattle.state.specs.declared.Driver.{Driver}
 use Rattle.state.specs.Slots.{idleb, busyb, slotNumber, withSlot}
 use Rattle.state.specs.Stored.{stored-slot}
+use Rattle.state.specs.Awaiting.{awaitingb, chainReadingb}
+use Rattle.events.specs.Pending.{eventsSoundb}
 use Rattle.state.specs.Fresh.{noConfig, freshSlot, slotAt, allocationAt}
 use Rattle.state.specs.Each.{every-at, every-make, and-left, and-right, and-both, implied, true-not-false}
 use Rattle.sound.specs.Clauses.{inRam, aligned, multiple, isIn, ep0}
@@ -101,6 +103,37 @@ slot-sound s e h i b = every-at (λ k. slotb (s .powered) k (slotAt s k)) 16 i (
 
 pub own-sound : (s : State) (e : Events) → soundb s e ≡ true → ownb s e ≡ true
 own-sound s e h = and-right (slotsb s 16) (ownb s e) (sound-parts s e ∙ h)
+
+-- what a sound state has beside its slots
+pub record OwnFacts (s : State) (e : Events) : Type 0 where
+  pub memory : (eqb (s .«ep0_address») 0 || inRam (s .«ep0_address») 512) ≡ true
+  pub apart : eventsSoundb (e .events) ≡ true
+  pub address : (not (s .«has_address») || leb (s .address) 127) ≡ true
+  pub sequence : leb (s .«tx_seq») 31 ≡ true
+  pub awaited : (not (awaitingb (s .awaited .next)) || s .powered) ≡ true
+  pub chain : (not (chainReadingb (s .awaited .next)) || (leb 1 (s .awaited .endpoint) && leb (s .awaited .endpoint) 7)) ≡ true
+
+pub own-facts : (s : State) (e : Events) → soundb s e ≡ true → OwnFacts s e
+unfolding ownb
+own-facts s e h =
+    let own = own-sound s e h in
+    let after1 = and-right (eqb (s .«ep0_address») 0 || inRam (s .«ep0_address») 512) _ own in
+    let after2 = and-right (eventsSoundb (e .events)) _ after1 in
+    let after3 = and-right (not (s .«has_address») || leb (s .address) 127) _ after2 in
+    let after4 = and-right (leb (s .«tx_seq») 31) _ after3 in
+    let after5 = and-right (not (awaitingb (s .awaited .next)) || s .powered) _ after4 in
+    record {
+      memory = and-left (eqb (s .«ep0_address») 0 || inRam (s .«ep0_address») 512) _ own;
+      apart = and-left (eventsSoundb (e .events)) _ after1;
+      address = and-left (not (s .«has_address») || leb (s .address) 127) _ after2;
+      sequence = and-left (leb (s .«tx_seq») 31) _ after3;
+      awaited = and-left (not (awaitingb (s .awaited .next)) || s .powered) _ after4;
+      chain = and-left (not (chainReadingb (s .awaited .next)) || (leb 1 (s .awaited .endpoint) && leb (s .awaited .endpoint) 7)) true after5;
+    }
+
+pub own-is : (s : State) (e : Events) → OwnFacts s e → ownb s e ≡ true
+unfolding ownb
+own-is s e o = rw (o .memory, o .apart, o .address, o .sequence, o .awaited, o .chain)
 
 pub sound-is : (s : State) (e : Events) → ((i : ℕ) → i < 16 → slotb (s .powered) i (slotAt s i) ≡ true) → ownb s e ≡ true → soundb s e ≡ true
 unfolding slotsb

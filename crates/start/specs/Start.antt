@@ -15,12 +15,12 @@ use Rattle.state.specs.declared.Refusal.{Refusal}
 use Rattle.state.specs.declared.Refusal.the-variants.{Unsound, OutOfTurn, ControlPacketSize}
 use Rattle.state.specs.declared.Check.{Check}
 use Rattle.state.specs.declared.Check.the-variants.{Fits, Refused}
-use Rattle.state.specs.Slots.{resetSlot, stateWith, withSlots}
-use Rattle.state.specs.Fresh.{freshSlot, slotAt, allocationAt}
+use Rattle.state.specs.Slots.{resetSlot, stateWith, withSlots, change-none-of, change-next-of}
+use Rattle.state.specs.Fresh.{slotAt, allocationAt}
 use Rattle.state.specs.Numbers.{refusalNumber, checkNumber}
 use Rattle.state.specs.Awaiting.{awaitingb}
 use Rattle.state.specs.Refusals.{Due, _if_, firstDue, Bound, bound}
-use Rattle.state.specs.Each.{change, change-none, change-next}
+use Rattle.state.specs.Each.{change}
 use Rattle.events.specs.Pending.{power}
 use Rattle.sound.specs.Sound.{soundb, driverSoundb}
 use Rattle.start.specs.declared.StartAnswer.{StartAnswer}
@@ -48,12 +48,12 @@ startedSlots d n slots = change (startedSlot d) n slots
 
 pub started-none : (s : State) (d : Driver) → withSlots s (startedSlots d 0 (s .endpoints)) ≡ s
 unfolding startedSlots
-started-none s d = rw (change-none (startedSlot d) (s .endpoints))
+started-none s d = change-none-of (startedSlot d) s
 
 pub started-next : (s₀ s : State) (d : Driver) (i : ℕ) (y : Slot) → s ≡ withSlots s₀ (startedSlots d i (s₀ .endpoints)) → y ≡ startedSlot d i (slotAt s₀ i)
     → withSlots s (set (s .endpoints) i y) ≡ withSlots s₀ (startedSlots d (i + 1) (s₀ .endpoints))
 unfolding startedSlots
-started-next s₀ s d i y h e = rw (h, e, change-next (startedSlot d) i (s₀ .endpoints) freshSlot)
+started-next s₀ s d i y h e = change-next-of (startedSlot d) s₀ s i y h e
 
 -- EP0 gets the start of the memory; the device is off, and no SETUP waits
 abbrev pub startedState : State → Driver → State

@@ -7,10 +7,10 @@ use mathlib.Core.Path.{_≡_, refl, ap, sym, _∙_}
 use native.Mathlib.Numerals.{add-one}
 use native.Mathlib.Nat.{add-zero, zero-add}
 use native.Mathlib.Omega.{arith}
-use borrow.Author.Tests.{eqb-true, eqb-false}
-use lib.Dec.{eqb}
+use borrow.Author.Tests.{eqb-true, eqb-false, ltb-true, ltb-false}
+use lib.Dec.{eqb, ltb}
 use Rattle.ops.specs.Ops.{bit}
-use lib.ListN.{length, getD, set}
+use lib.ListN.{length, getD, set, List·getD-eq-default}
 
 -- whether p is true of 0, 1, .., n - 1
 unfoldable pub every : (ℕ → Bool) → ℕ → Bool
@@ -157,3 +157,14 @@ pub set-past : {A : Type 0} (l : List A) (i : ℕ) (x : A) → length l ≤ i �
 set-past [] i x h = refl
 set-past (y ∷ l) zero x h = absurd (omega (arith, h))
 set-past (y ∷ l) (suc i) x h = ap (λ t. y ∷ t) (set-past l i x (omega (arith, h)))
+
+-- an entry of a list whose first n entries were changed; past its end there is none to change
+pub changed-at : {A : Type 0} (P : A → Type 0) (f : ℕ → A → A) (n : ℕ) (l : List A) (i : ℕ) (d : A) → i < n → P (f i (getD l i d)) → (getD l i d ≡ d → P d) → P (getD (change f n l) i d)
+changed-at P f n l i d h there past = go (ltb i (length l)) refl
+  where
+    go : (b : Bool) → ltb i (length l) ≡ b → P (getD (change f n l) i d)
+    go true e = rw (change-at f n l i d h (ltb-true _ _ e)) there
+    go false e =
+        let b : length l ≤ i = ltb-false _ _ e in
+        let c : length (change f n l) ≤ i = rw (change-length 0 f n l) b in
+        rw (List·getD-eq-default (change f n l) d c) (past (List·getD-eq-default l d b))

@@ -4,6 +4,7 @@ use Prim.Native.Nat.{ℕ, _+_, _*_, _%_, _^_, _≤_}
 use native.Mathlib.Omega.{arith}
 use mathlib.Core.Bool.{Bool, true, false, _&&_, not}
 use mathlib.Core.List.{List}
+use mathlib.Core.Path.{_≡_}
 use lib.ListN.{set}
 use Rattle.ops.specs.Ops.{bit}
 use Rattle.state.specs.declared.Phase.{Phase}
@@ -11,6 +12,8 @@ use Rattle.state.specs.declared.Phase.the-variants.{Idle, Busy, Done}
 use Rattle.state.specs.declared.Tally.{Tally}
 use Rattle.state.specs.declared.Slot.{Slot}
 use Rattle.state.specs.declared.State.{State}
+use Rattle.state.specs.Fresh.{freshSlot, slotAt}
+use Rattle.state.specs.Each.{change, change-none, change-next}
 
 abbrev pub idleb : Phase → Bool
 idleb Idle = true
@@ -80,3 +83,11 @@ withSlots s slots = stateWith s slots (s .«ep0_address») (s .powered) (s .«ha
 -- with one other slot
 abbrev pub withSlot : State → ℕ → Slot → State
 withSlot s i x = withSlots s (set (s .endpoints) i x)
+
+-- a loop over the slots: none is changed yet, and one more is
+pub change-none-of : (f : ℕ → Slot → Slot) (s : State) → withSlots s (change f 0 (s .endpoints)) ≡ s
+change-none-of f s = rw (change-none f (s .endpoints))
+
+pub change-next-of : (f : ℕ → Slot → Slot) (s₀ s : State) (i : ℕ) (y : Slot) → s ≡ withSlots s₀ (change f i (s₀ .endpoints)) → y ≡ f i (slotAt s₀ i)
+    → withSlot s i y ≡ withSlots s₀ (change f (i + 1) (s₀ .endpoints))
+change-next-of f s₀ s i y h e = rw (h, e, change-next f i (s₀ .endpoints) freshSlot)

@@ -7,7 +7,7 @@ use native.Mathlib.Omega.{arith}
 use Rattle.ops.specs.Ops.{bit}
 use Rattle.state.specs.declared.Slot.{Slot}
 use Rattle.state.specs.declared.State.{State}
-use Rattle.state.specs.Slots.{idleb, resetSlot, withSlot}
+use Rattle.state.specs.Slots.{idleb, forgotten, resetSlot, withSlot}
 use Rattle.state.specs.Fresh.{slotAt}
 use Rattle.state.specs.Stored.{stored-slot}
 
@@ -31,6 +31,14 @@ reset-keeps x enabled = go (idleb (x .phase)) refl
     go : (b : Bool) → idleb (x .phase) ≡ b → KeepsAccount x (resetSlot x true enabled)
     go true e = record { begun = rw e; same = rw e }
     go false e = record { begun = rw e; same = rw e (omega arith) }
+
+-- the same of one that keeps or gets a stall
+pub forgotten-keeps : (x : Slot) (enabled stalled : Bool) → KeepsAccount x (forgotten x true enabled stalled)
+forgotten-keeps x enabled stalled = let k = reset-keeps x enabled in record { begun = k .begun; same = k .same }
+
+-- a slot that nothing is done to
+pub unmoved : (x : Slot) → KeepsAccount x x
+unmoved x = record { begun = refl; same = refl }
 
 -- begun less accounted is the same, modulo 2^32
 pub record SameDifference (x y : Slot) : Type 0 where

@@ -1,0 +1,52 @@
+-- `endpoint_set_stalled`: made, or refused. Assumes nothing.
+use borrow.Author.Needs.{needs}
+use Rattle.ops.specs.Wrote.{none}
+use Rattle.state.specs.declared.Check.the-variants.{Fits, Refused}
+use Rattle.orders.specs.Orders.{order-room, order-told}
+use mathlib.Core.Path.{sym, _∙_}
+use Rattle.orders.proofs.endpoint_set_stalled.Statement.{statement}
+use Rattle.orders.proofs.endpoint_set_stalled.Tie as tie
+
+order-check-requires : tie.Need-order-check-requires
+order-check-requires c κs = search needs
+
+enum-told : tie.Need-enum-told
+enum-told c = search needs
+
+stall-requires : tie.Need-stall-requires
+stall-requires c κs =
+    let t = c .before in
+    order-room _ _ _ (sym (t .before .before .order-check .ensures) ∙ t .enum-told .given .1)
+
+enum-known-check : tie.Need-enum-known-check
+enum-known-check c = search needs
+
+refused-requires : tie.Need-refused-requires
+refused-requires c κs = search needs
+
+same-length : tie.Need-same-length
+same-length c = search needs
+
+returns : tie.Need-returns
+returns c =
+    let p = c .before .before in
+    let t = p .before .before in
+    order-told Fits _ _ _ _ _ _ _ _ (sym (t .before .before .order-check .ensures) ∙ t .enum-told .given .1) (p .stall .ensures .0) (p .stall .ensures .1)
+
+returns-2 : tie.Need-returns-2
+returns-2 c =
+    let t = c .before .before in
+    order-told (Refused _) _ _ _ _ _ _ _ _ (sym (t .before .before .order-check .ensures) ∙ t .check .given .1) (c .refused .ensures) (rw (c .refused .ensures) (none _ 0))
+
+pub endpoint-set-stalled-spec : {M : Type 1} → statement M
+endpoint-set-stalled-spec =
+    tie.close
+    (tie.spec
+    order-check-requires
+    enum-told
+    stall-requires
+    enum-known-check
+    refused-requires
+    same-length
+    returns
+    returns-2)

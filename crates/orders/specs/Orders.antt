@@ -1,0 +1,182 @@
+-- Stall and enable orders (reference: `with_endpoint`, `set_endpoint_stalled` and `endpoint_set_enabled` of device.rs).
+-- Assumes nothing.
+use Prim.Native.Nat.{ℕ, _≤_}
+use native.Mathlib.Omega.{arith}
+use mathlib.Core.Path.{_≡_, refl}
+use mathlib.Core.Bool.{Bool, true, false, _&&_, not, cond}
+use mathlib.Core.List.{List, [], _∷_, _++_}
+use lib.Dec.{leb, ltb}
+use lib.ListN.{length}
+use Rattle.ops.specs.Ops.{Op, flat, records}
+use Rattle.ops.specs.Wrote.{Wrote, none}
+use Rattle.state.specs.declared.EndpointType.{EndpointType}
+use Rattle.state.specs.declared.EndpointType.the-variants as kind
+use Rattle.state.specs.declared.Slot.{Slot}
+use Rattle.state.specs.declared.State.{State}
+use Rattle.state.specs.declared.Events.{Events}
+use Rattle.state.specs.declared.Wakes.{Wakes}
+use Rattle.state.specs.declared.Refusal.{Refusal}
+use Rattle.state.specs.declared.Refusal.the-variants.{ListTooShort, Unsound, OutOfTurn}
+use Rattle.state.specs.declared.Check.{Check}
+use Rattle.state.specs.declared.Check.the-variants.{Fits, Refused}
+use Rattle.state.specs.Slots.{busyb, slotNumber, forgotten, resetSlot, withSlot}
+use Rattle.state.specs.Fresh.{slotAt}
+use Rattle.state.specs.Awaiting.{awaitingb}
+use Rattle.state.specs.Waking.{noWakes, wakeSlot}
+use Rattle.state.specs.Numbers.{refusalNumber, checkNumber}
+use Rattle.state.specs.Refusals.{Due, _if_, firstDue, Bound, bound}
+use Rattle.sound.specs.Sound.{soundb}
+use Rattle.sound.specs.Turn.{admitted-room}
+use Rattle.regs_endpoint.specs.Endpoint.{abortOps, haltOps, clearOps, configureOps, enableOps}
+use Rattle.orders.specs.declared.OrderAnswer.{OrderAnswer}
+use Rattle.orders.specs.declared.OrderAnswer.the-variants as order
+use Rattle.orders.specs.declared.OrderResult.{OrderResult}
+
+-- endpoints 1–7
+abbrev pub dataEndpoint : ℕ → Bool
+dataEndpoint index = leb 1 index && leb index 7
+
+abbrev pub isochronous : EndpointType → Bool
+isochronous kind.Control = false
+isochronous kind.Isochronous = true
+isochronous kind.Bulk = false
+isochronous kind.Interrupt = false
+
+-- the slot that an endpoint's direction has
+abbrev pub slotOf : State → ℕ → Bool → Slot
+slotOf s index incoming = slotAt s (slotNumber index incoming)
+
+-- an endpoint that orders reach: a data endpoint of the powered device, and configured
+abbrev pub reached : State → ℕ → Bool → Bool
+reached s index incoming = dataEndpoint index && (s .powered && slotOf s index incoming .configured)
+
+-- what an order comes to: whether the endpoint is fit for it and, where it is, the slot and the operations that it makes
+pub record Order : Type 0 where
+  pub fit : Bool
+  pub slot : Slot
+  pub ops : List Op
+
+-- a stall order wants an enabled endpoint. It cuts a transfer in hand; the chain of a busy one is ended first.
+abbrev pub abortedOps : ℕ → Bool → Bool → List Op
+abortedOps index incoming busy = cond busy (abortOps index incoming) []
+
+abbrev pub stallOps : ℕ → Bool → Bool → Bool → List Op
+stallOps index incoming busy stalled = abortedOps index incoming busy ++ cond stalled (haltOps index incoming) (clearOps index incoming)
+
+pub aborted-room : (index : ℕ) (incoming busy : Bool) → length (flat (abortedOps index incoming busy)) ≤ records 3
+aborted-room index incoming true = omega arith
+aborted-room index incoming false = omega arith
+
+unfoldable pub stallOrder : State → ℕ → Bool → Bool → Order
+stallOrder s index incoming stalled =
+    record {
+      fit = reached s index incoming && slotOf s index incoming .enabled;
+      slot = forgotten (slotOf s index incoming) true (slotOf s index incoming .enabled) stalled;
+      ops = stallOps index incoming (busyb (slotOf s index incoming .phase)) stalled;
+    }
+
+-- an enable order cuts a transfer in hand; the endpoint is switched off before it is set up anew or cleared
+abbrev pub switchOps : ℕ → Bool → Bool → Bool → List Op
+switchOps index incoming iso enabled =
+    enableOps index incoming false ++ cond enabled (configureOps index incoming iso ++ enableOps index incoming true) (clearOps index incoming)
+
+unfoldable pub enableOrder : State → ℕ → Bool → Bool → Order
+enableOrder s index incoming enabled =
+    record {
+      fit = reached s index incoming;
+      slot = resetSlot (slotOf s index incoming) true enabled;
+      ops = switchOps index incoming (isochronous (slotOf s index incoming .config .«ep_type»)) enabled;
+    }
+
+-- an order that isn't refused: its operations, the state behind it, and who is woken. On an unfit endpoint it makes no
+-- operation, yet a data endpoint's slot is woken.
+abbrev pub madeOps : Order → List Op
+madeOps o = cond (o .fit) (o .ops) []
+
+abbrev pub madeState : State → ℕ → Bool → Order → State
+madeState s index incoming o = cond (o .fit) (withSlot s (slotNumber index incoming) (o .slot)) s
+
+abbrev pub orderWakes : ℕ → Bool → Wakes
+orderWakes index incoming = cond (dataEndpoint index) (wakeSlot (slotNumber index incoming)) noWakes
+
+abbrev pub madeResult : State → ℕ → Bool → Order → OrderResult
+madeResult s index incoming o =
+    record { answer = order.Ordered; state = madeState s index incoming o; end = length (flat (madeOps o)); wakes = orderWakes index incoming }
+
+-- on a fit endpoint, and on another one
+pub made-fit : {before after : List ℕ} {end : ℕ} (s t : State) (index : ℕ) (incoming : Bool) (w : Wakes) (o : Order) → o .fit ≡ true
+    → t ≡ withSlot s (slotNumber index incoming) (o .slot) → w ≡ orderWakes index incoming → Wrote before 0 (o .ops) end after
+    → (record { answer = order.Ordered; state = t; end = end; wakes = w } ≡ madeResult s index incoming o) × (Wrote before 0 (madeOps o) end after)
+made-fit {end = end} s t index incoming w o h q v wrote =
+    let n : end ≡ length (flat (o .ops)) = omega (arith, wrote .end) in
+    (rw (h, q, v, n), rw h wrote)
+
+pub made-unfit : (l : List ℕ) (s : State) (index : ℕ) (incoming : Bool) (w : Wakes) (o : Order) → o .fit ≡ false → w ≡ orderWakes index incoming
+    → (record { answer = order.Ordered; state = s; end = 0; wakes = w } ≡ madeResult s index incoming o) × (Wrote l 0 (madeOps o) 0 l)
+made-unfit l s index incoming w o h v = (rw (h, v), rw h (none l 0))
+
+abbrev pub refusedOrder : Refusal → State → OrderResult
+refusedOrder r s = record { answer = order.Refused r; state = s; end = 0; wakes = noWakes }
+
+-- n is how many numbers the list has room for
+abbrev pub orderDues : ℕ → State → Events → List Due
+orderDues n s e =
+    ListTooShort if ltb n 640
+    ∷ Unsound if not (soundb s e)
+    ∷ OutOfTurn if awaitingb (s .awaited .next)
+    ∷ []
+
+unfoldable pub orderCheck : ℕ → State → Events → Check
+orderCheck n s e = firstDue (orderDues n s e)
+
+pub order-room : (n : ℕ) (s : State) (e : Events) → orderCheck n s e ≡ Fits → 640 ≤ n
+unfolding orderCheck
+order-room n s e h = admitted-room n s e Fits h
+
+abbrev pub opsAt : Check → Order → List Op
+opsAt Fits o = madeOps o
+opsAt (Refused r) o = []
+
+abbrev pub resultAt : Check → State → ℕ → Bool → Order → OrderResult
+resultAt Fits s index incoming o = madeResult s index incoming o
+resultAt (Refused r) s index incoming o = refusedOrder r s
+
+unfoldable pub orderOps : ℕ → State → Events → Order → List Op
+orderOps n s e o = opsAt (orderCheck n s e) o
+
+unfoldable pub orderResult : ℕ → State → Events → ℕ → Bool → Order → OrderResult
+orderResult n s e index incoming o = resultAt (orderCheck n s e) s index incoming o
+
+-- the number of an answer: 0 for an order that was taken, else the refusal's
+abbrev pub orderNumber : OrderAnswer → ℕ
+orderNumber order.Ordered = 0
+orderNumber (order.Refused r) = refusalNumber r
+
+-- all that is promised of an order
+abbrev pub Told : OrderResult → List ℕ → List ℕ → State → Events → ℕ → Bool → Order → Type 0
+Told r before after s e index incoming o =
+    (r ≡ orderResult (length before) s e index incoming o)
+    × ((Wrote before 0 (orderOps (length before) s e o) (r .end) after)
+    × (orderNumber (r .answer) ≡ checkNumber (orderCheck (length before) s e)))
+
+-- by what the tests came to
+pub order-told : (c : Check) (r : OrderResult) (before after : List ℕ) (s : State) (e : Events) (index : ℕ) (incoming : Bool) (o : Order)
+    → orderCheck (length before) s e ≡ c → r ≡ resultAt c s index incoming o → Wrote before 0 (opsAt c o) (r .end) after
+    → Told r before after s e index incoming o
+unfolding orderResult orderOps
+order-told c r before after s e index incoming o h q w = (rw h q, (rw h w, rw (q, h) (number c)))
+  where
+    number : (c : Check) → orderNumber (resultAt c s index incoming o .answer) ≡ checkNumber c
+    number Fits = refl
+    number (Refused t) = refl
+
+-- Each refusal is given exactly where it is the first that is due, and none where none is.
+pub order-bound : (n : ℕ) (s : State) (e : Events) → Bound (orderDues n s e) (orderCheck n s e)
+unfolding orderCheck
+order-bound n s e = bound (orderDues n s e)
+
+-- A refused order leaves the state as it was, makes no operation and wakes nobody.
+pub refused-same : (n : ℕ) (s : State) (e : Events) (index : ℕ) (incoming : Bool) (o : Order) (q : Refusal) → orderCheck n s e ≡ Refused q
+    → (orderResult n s e index incoming o ≡ refusedOrder q s) × (orderOps n s e o ≡ [])
+unfolding orderResult orderOps
+refused-same n s e index incoming o q h = (rw h, rw h)

@@ -1,0 +1,13 @@
+-- `refused`: the state as it was. Assumes nothing.
+use borrow.Author.Needs.{needs}
+use Rattle.power.proofs.refused.Statement.{statement}
+use Rattle.power.proofs.refused.Tie as tie
+
+no-wakes-requires : tie.Need-no-wakes-requires
+no-wakes-requires c κs = search needs
+
+returns : tie.Need-returns
+returns c = rw (c .no-wakes .ensures)
+
+pub refused-spec : {M : Type 1} → statement M
+refused-spec = tie.close (tie.spec no-wakes-requires returns)

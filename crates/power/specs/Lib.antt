@@ -1,0 +1,3 @@
+pub mod Reset
+pub mod Power
+pub mod Keeps
