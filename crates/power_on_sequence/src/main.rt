@@ -1,11 +1,17 @@
 // Prints the register operations of power-on, a record a line, registers and fields by name.
+use state::Events;
 
 // Silicon revision 3, EP0 at the start of RAM.
 fn main() {
     let mut list = [0u32; 640];
-    let a = regs_link::init(&mut list, 0, 3);
-    let b = regs::protocol_reset(&mut list, a, 0x200A_0000);
-    let end = regs_link::link_power_allow(&mut list, b, false);
+    let events = Events { events: 0 };
+    let fresh = state::fresh::fresh();
+    let made = allocate::new(0x200A_0000, 512);
+    let driver = made.driver;
+    let started = start::start(fresh, events, driver, 512);
+    let off = started.state;
+    let pending = started.events;
+    let on = power::power_on(&mut list, off, pending, 3);
     print::header();
-    print::operations(&list, end);
+    print::operations(&list, on.end);
 }
