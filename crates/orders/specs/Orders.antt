@@ -46,7 +46,7 @@ isochronous kind.Interrupt = false
 abbrev pub slotOf : State → ℕ → Bool → Slot
 slotOf s index incoming = slotAt s (slotNumber index incoming)
 
--- an endpoint that orders reach: a data endpoint of the powered device, and configured
+-- an endpoint that orders reach: one of those, configured, while the device is powered
 abbrev pub reached : State → ℕ → Bool → Bool
 reached s index incoming = dataEndpoint index && (s .powered && slotOf s index incoming .configured)
 
