@@ -1,7 +1,4 @@
 // Transfers that are taken, abandoned, stalled, disabled and reset.
-ghost use Prim.Native.Nat.{_≤_};
-ghost use lib.ListN.{length};
-ghost use Rattle.ops.specs.Ops.{records};
 use state::Driver;
 use state::EndpointRequest;
 use state::EndpointType;
@@ -11,9 +8,7 @@ use state::State;
 // Where the buffers of the transfers lie.
 const BUFFER: u32 = 0x200B_0000;
 
-pub fn run(list: &mut [u32]) -> State
-    requires { ⌜ records 127 ≤ length (now list) ⌝ }
-{
+pub fn run(list: &mut [u32; 640]) -> State {
     let events = Events {
         events: state::POWER,
     };
@@ -56,7 +51,7 @@ fn endpoint(driver: Driver, incoming: bool, index: u8, kind: EndpointType, size:
     given.driver
 }
 
-fn switched_on(list: &mut [u32], state: State, events: Events) -> State {
+fn switched_on(list: &mut [u32; 640], state: State, events: Events) -> State {
     let on = power::power_on(list, state, events, 3);
     let s = on.state;
     let a = enabled(list, s, events, 1, true, true);
@@ -66,9 +61,7 @@ fn switched_on(list: &mut [u32], state: State, events: Events) -> State {
 }
 
 // Slot 3: one taken, one abandoned after its first chain, one left done.
-fn images(list: &mut [u32], state: State, events: Events) -> State
-    requires { ⌜ records 127 ≤ length (now list) ⌝ }
-{
+fn images(list: &mut [u32; 640], state: State, events: Events) -> State {
     let a = begun(list, state, events, 1, true, 1025);
     let b = sent(list, a, 1);
     let c = taken(b, events, 1, true);
@@ -79,9 +72,7 @@ fn images(list: &mut [u32], state: State, events: Events) -> State
 }
 
 // Slot 2: one that a short packet ends is taken, one is left busy.
-fn answers(list: &mut [u32], state: State, events: Events) -> State
-    requires { ⌜ records 127 ≤ length (now list) ⌝ }
-{
+fn answers(list: &mut [u32; 640], state: State, events: Events) -> State {
     let a = begun(list, state, events, 1, false, 4096);
     let b = received(list, a, 1, 2, 1024);
     let c = received(list, b, 1, 9, 100);
@@ -91,9 +82,7 @@ fn answers(list: &mut [u32], state: State, events: Events) -> State
 }
 
 // Slot 5: one is stalled, one taken. Slot 6: one taken, one disabled while it is done.
-fn small(list: &mut [u32], state: State, events: Events) -> State
-    requires { ⌜ records 127 ≤ length (now list) ⌝ }
-{
+fn small(list: &mut [u32; 640], state: State, events: Events) -> State {
     let a = begun(list, state, events, 2, true, 640);
     let b = stalled(list, a, events, 2, true, true);
     let c = stalled(list, b, events, 2, true, false);
@@ -109,9 +98,7 @@ fn small(list: &mut [u32], state: State, events: Events) -> State
 }
 
 // A bus reset cuts what slots 2 and 3 have in hand; slot 5 begins anew.
-fn reset(list: &mut [u32], state: State, events: Events) -> State
-    requires { ⌜ records 127 ≤ length (now list) ⌝ }
-{
+fn reset(list: &mut [u32; 640], state: State, events: Events) -> State {
     let after = power::bus_reset(list, 0, state);
     let s = after.state;
     let a = enabled(list, s, events, 2, true, true);
@@ -119,13 +106,13 @@ fn reset(list: &mut [u32], state: State, events: Events) -> State
 }
 
 // What slot 5 has in hand is cut.
-fn switched_off(list: &mut [u32], state: State, events: Events) -> State {
+fn switched_off(list: &mut [u32; 640], state: State, events: Events) -> State {
     let off = power::power_off(list, state, events);
     off.state
 }
 
 fn enabled(
-    list: &mut [u32],
+    list: &mut [u32; 640],
     state: State,
     events: Events,
     index: u8,
@@ -137,7 +124,7 @@ fn enabled(
 }
 
 fn stalled(
-    list: &mut [u32],
+    list: &mut [u32; 640],
     state: State,
     events: Events,
     index: u8,
@@ -149,7 +136,7 @@ fn stalled(
 }
 
 fn begun(
-    list: &mut [u32],
+    list: &mut [u32; 640],
     state: State,
     events: Events,
     index: u8,
@@ -165,21 +152,23 @@ fn taken(state: State, events: Events, index: u8, incoming: bool) -> State {
     take.state
 }
 
-fn abandoned(list: &mut [u32], state: State, events: Events, index: u8, incoming: bool) -> State {
+fn abandoned(
+    list: &mut [u32; 640],
+    state: State,
+    events: Events,
+    index: u8,
+    incoming: bool,
+) -> State {
     let given_up = transfer::abandon(list, state, events, index, incoming);
     given_up.state
 }
 
-fn sent(list: &mut [u32], state: State, index: u8) -> State
-    requires { ⌜ records 127 ≤ length (now list) ⌝ }
-{
+fn sent(list: &mut [u32; 640], state: State, index: u8) -> State {
     let report = report::report_in(list, 0, state, index);
     report.state
 }
 
-fn received(list: &mut [u32], state: State, index: u8, packets: u32, last: u32) -> State
-    requires { ⌜ records 127 ≤ length (now list) ⌝ }
-{
+fn received(list: &mut [u32; 640], state: State, index: u8, packets: u32, last: u32) -> State {
     let report = report::report_out(list, 0, state, index, packets, last);
     report.state
 }
