@@ -10,14 +10,14 @@ use Rattle.state.specs.declared.State.{State}
 use Rattle.state.specs.declared.Events.{Events}
 use Rattle.state.specs.declared.Check.{Check}
 use Rattle.state.specs.declared.Check.the-variants.{Fits, Refused}
-use Rattle.state.specs.Slots.{slotNumber, forgotten, bit-small}
+use Rattle.state.specs.Slots.{dataEndpoint, slotNumber, forgotten, bit-small}
 use Rattle.state.specs.Fresh.{slotAt}
 use Rattle.state.specs.Tally.{KeepsAccount, forgotten-keeps, unmoved}
 use Rattle.state.specs.Stored.{stored-slot}
 use Rattle.state.specs.Each.{and-left, and-right}
 use Rattle.sound.specs.Sound.{soundb, slotb}
 use Rattle.sound.specs.Facts.{slot-sound, idled-sound, one-slot-sound}
-use Rattle.orders.specs.Orders.{dataEndpoint, slotOf, reached, Order, stallOrder, enableOrder, madeState, orderCheck, resultAt, orderResult}
+use Rattle.orders.specs.Orders.{slotOf, reached, Order, stallOrder, enableOrder, madeState, orderCheck, resultAt, orderResult}
 
 -- what an order's slot has to have: it is sound where the order is carried out, and its account is the old one
 record Kept (s : State) (index : ℕ) (incoming : Bool) (o : Order) : Type 0 where

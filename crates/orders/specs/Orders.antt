@@ -19,7 +19,7 @@ use Rattle.state.specs.declared.Refusal.{Refusal}
 use Rattle.state.specs.declared.Refusal.the-variants.{ListTooShort, Unsound, OutOfTurn}
 use Rattle.state.specs.declared.Check.{Check}
 use Rattle.state.specs.declared.Check.the-variants.{Fits, Refused}
-use Rattle.state.specs.Slots.{busyb, slotNumber, forgotten, resetSlot, withSlot}
+use Rattle.state.specs.Slots.{busyb, slotNumber, dataEndpoint, forgotten, resetSlot, withSlot}
 use Rattle.state.specs.Fresh.{slotAt}
 use Rattle.state.specs.Awaiting.{awaitingb}
 use Rattle.state.specs.Waking.{noWakes, wakeSlot}
@@ -27,14 +27,10 @@ use Rattle.state.specs.Numbers.{refusalNumber, checkNumber}
 use Rattle.state.specs.Refusals.{Due, _if_, firstDue, Bound, bound}
 use Rattle.sound.specs.Sound.{soundb}
 use Rattle.sound.specs.Turn.{admitted-room}
-use Rattle.regs_endpoint.specs.Endpoint.{abortOps, haltOps, clearOps, configureOps, enableOps}
+use Rattle.regs_endpoint.specs.Endpoint.{abortBusyOps, haltOps, clearOps, configureOps, enableOps}
 use Rattle.orders.specs.declared.OrderAnswer.{OrderAnswer}
 use Rattle.orders.specs.declared.OrderAnswer.the-variants as order
 use Rattle.orders.specs.declared.OrderResult.{OrderResult}
-
--- endpoints 1–7
-abbrev pub dataEndpoint : ℕ → Bool
-dataEndpoint index = leb 1 index && leb index 7
 
 abbrev pub isochronous : EndpointType → Bool
 isochronous kind.Control = false
@@ -57,15 +53,8 @@ pub record Order : Type 0 where
   pub ops : List Op
 
 -- a stall order wants an enabled endpoint. It cuts a transfer in hand; the chain of a busy one is ended first.
-abbrev pub abortedOps : ℕ → Bool → Bool → List Op
-abortedOps index incoming busy = cond busy (abortOps index incoming) []
-
 abbrev pub stallOps : ℕ → Bool → Bool → Bool → List Op
-stallOps index incoming busy stalled = abortedOps index incoming busy ++ cond stalled (haltOps index incoming) (clearOps index incoming)
-
-pub aborted-room : (index : ℕ) (incoming busy : Bool) → length (flat (abortedOps index incoming busy)) ≤ records 3
-aborted-room index incoming true = omega arith
-aborted-room index incoming false = omega arith
+stallOps index incoming busy stalled = abortBusyOps index incoming busy ++ cond stalled (haltOps index incoming) (clearOps index incoming)
 
 unfoldable pub stallOrder : State → ℕ → Bool → Bool → Order
 stallOrder s index incoming stalled =

@@ -5,7 +5,7 @@ ghost use lib.ListN.{length};
 ghost use Rattle.ops.specs.Ops.{records};
 ghost use Rattle.ops.specs.Wrote.{Wrote};
 ghost use Rattle.state.specs.Numbers.{checkNumber};
-ghost use Rattle.orders.specs.Orders.{dataEndpoint, isochronous, orderWakes, abortedOps, stallOps, switchOps, stallOrder, enableOrder, madeOps, madeResult, refusedOrder, orderCheck, orderOps, orderResult, orderNumber};
+ghost use Rattle.orders.specs.Orders.{isochronous, orderWakes, stallOps, switchOps, stallOrder, enableOrder, madeOps, madeResult, refusedOrder, orderCheck, orderOps, orderResult, orderNumber};
 ghost use Rattle.orders.specs.Queries.{stalledb, enabledb, queryCheck, queryAnswer, queryNumbers, numbersAt};
 use state::Check;
 use state::EndpointType;
@@ -32,12 +32,6 @@ pub enum QueryAnswer {
     Says(bool),
 }
 
-fn is_data_endpoint(index: u8) -> bool
-    ensures { λ r. ⌜ r ≡ dataEndpoint index ⌝ }
-{
-    (1 <= index) & (index <= 7)
-}
-
 fn is_isochronous(ep_type: EndpointType) -> bool
     ensures { λ r. ⌜ r ≡ isochronous «ep_type» ⌝ }
 {
@@ -52,22 +46,12 @@ fn is_isochronous(ep_type: EndpointType) -> bool
 fn wakes_of(index: u8, incoming: bool) -> Wakes
     ensures { λ r. ⌜ r ≡ orderWakes index incoming ⌝ }
 {
-    let there = is_data_endpoint(index);
+    let there = state::slots::is_data_endpoint(index);
     let i = state::slots::slot_number(index, incoming);
     if there {
         return state::waking::wake_slot(i);
     }
     state::waking::no_wakes()
-}
-
-fn abort_busy(ops: &mut [u32], at: usize, index: u32, incoming: bool, busy: bool) -> usize
-    requires { ⌜ at + records 3 ≤ length (now ops) ⌝ }
-    ensures { λ r. ⌜ Wrote (now (ops .entry)) at (abortedOps index incoming busy) r (now (ops .exit)) ⌝ }
-{
-    if busy {
-        return regs_endpoint::abort(ops, at, index, incoming);
-    }
-    at
 }
 
 fn stall_ops(
@@ -81,7 +65,7 @@ fn stall_ops(
     requires { ⌜ at + records 7 ≤ length (now ops) ⌝ }
     ensures { λ r. ⌜ Wrote (now (ops .entry)) at (stallOps index incoming busy stalled) r (now (ops .exit)) ⌝ }
 {
-    let a = abort_busy(ops, at, index, incoming, busy);
+    let a = regs_endpoint::abort_busy(ops, at, index, incoming, busy);
     if stalled {
         return regs_endpoint::halt(ops, a, index, incoming);
     }
@@ -114,7 +98,7 @@ fn stall(ops: &mut [u32], state: State, index: u8, incoming: bool, stalled: bool
     ensures list { λ r. ⌜ Wrote (now (ops .entry)) 0 (madeOps (stallOrder state index incoming stalled)) (r .end) (now (ops .exit)) ⌝ }
 {
     let wakes = wakes_of(index, incoming);
-    let there = is_data_endpoint(index);
+    let there = state::slots::is_data_endpoint(index);
     let i = state::slots::slot_number(index, incoming);
     let x = state::slots::slot_at(state, i);
     let phase = x.phase;
@@ -145,7 +129,7 @@ fn switch(ops: &mut [u32], state: State, index: u8, incoming: bool, enabled: boo
     ensures list { λ r. ⌜ Wrote (now (ops .entry)) 0 (madeOps (enableOrder state index incoming enabled)) (r .end) (now (ops .exit)) ⌝ }
 {
     let wakes = wakes_of(index, incoming);
-    let there = is_data_endpoint(index);
+    let there = state::slots::is_data_endpoint(index);
     let i = state::slots::slot_number(index, incoming);
     let x = state::slots::slot_at(state, i);
     let config = x.config;

@@ -4,7 +4,7 @@ ghost use Prim.Native.Nat.{_+_, _≤_};
 ghost use lib.ListN.{length};
 ghost use Rattle.ops.specs.Ops.{records};
 ghost use Rattle.ops.specs.Wrote.{Wrote};
-ghost use Rattle.regs_endpoint.specs.Endpoint.{bankOf, clearOps, cfgOps, configureOps, abortOps, windowOps, haltOps, enableOps, chainInOps, chainOutOps, chainAckOps};
+ghost use Rattle.regs_endpoint.specs.Endpoint.{bankOf, clearOps, cfgOps, configureOps, abortOps, abortBusyOps, windowOps, haltOps, enableOps, chainInOps, chainOutOps, chainAckOps};
 use ops::numbers::*;
 
 // The registers of an endpoint's direction, and the field of its enable bit.
@@ -93,6 +93,17 @@ pub fn abort(ops: &mut [u32], at: usize, index: u32, incoming: bool) -> usize
         [WRITE, ep.st, index, ERDY_REQ, 1], // a host that waits asks again
     ];
     ops::append(ops, at, &rows)
+}
+
+// The same where there is a chain, and else nothing.
+pub fn abort_busy(ops: &mut [u32], at: usize, index: u32, incoming: bool, busy: bool) -> usize
+    requires { ⌜ at + records 3 ≤ length (now ops) ⌝ }
+    ensures { λ r. ⌜ Wrote (now (ops .entry)) at (abortBusyOps index incoming busy) r (now (ops .exit)) ⌝ }
+{
+    if busy {
+        return abort(ops, at, index, incoming);
+    }
+    at
 }
 
 // The window of an OUT endpoint: one more than the packets that may be sent ahead of their ACK.

@@ -5,6 +5,7 @@ use native.Mathlib.Omega.{arith}
 use mathlib.Core.Bool.{Bool, true, false, _&&_, not}
 use mathlib.Core.List.{List}
 use mathlib.Core.Path.{_≡_}
+use lib.Dec.{leb}
 use lib.ListN.{set}
 use Rattle.ops.specs.Ops.{bit}
 use Rattle.state.specs.declared.Phase.{Phase}
@@ -28,6 +29,10 @@ busyb Done = false
 -- document 01: slot = 2 × endpoint + 1 for IN
 abbrev pub slotNumber : ℕ → Bool → ℕ
 slotNumber index incoming = index * 2 + bit incoming
+
+-- the endpoints that have transfers, 1–7
+abbrev pub dataEndpoint : ℕ → Bool
+dataEndpoint e = leb 1 e && leb e 7
 
 -- a cut transfer adds itself and its progress, modulo 2^32
 abbrev pub tallyCut : Tally → Bool → ℕ → Tally

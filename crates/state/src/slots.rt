@@ -1,6 +1,6 @@
 // One slot: its number, its phase, and how it forgets its transfer.
 ghost use mathlib.Core.Path.{_≡_};
-ghost use Rattle.state.specs.Slots.{idleb, busyb, slotNumber, tallyCut, forgotten, resetSlot, withSlot};
+ghost use Rattle.state.specs.Slots.{idleb, busyb, slotNumber, dataEndpoint, tallyCut, forgotten, resetSlot, withSlot};
 ghost use Rattle.state.specs.Fresh.{slotAt};
 use super::Phase;
 use super::Slot;
@@ -33,6 +33,13 @@ pub fn slot_number(index: u8, incoming: bool) -> usize
     ensures { λ r. ⌜ r ≡ slotNumber index incoming ⌝ }
 {
     (index as usize) * 2 + incoming as usize
+}
+
+// Whether an endpoint has transfers.
+pub fn is_data_endpoint(index: u8) -> bool
+    ensures { λ r. ⌜ r ≡ dataEndpoint index ⌝ }
+{
+    (1 <= index) & (index <= 7)
 }
 
 // What a cut transfer adds to its tally; nothing where `cut` is clear.

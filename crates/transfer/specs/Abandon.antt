@@ -12,17 +12,16 @@ use Rattle.state.specs.declared.Events.{Events}
 use Rattle.state.specs.declared.Refusal.the-variants.{ListTooShort, Unsound, OutOfTurn, NoDataEndpoint}
 use Rattle.state.specs.declared.Check.{Check}
 use Rattle.state.specs.declared.Check.the-variants.{Fits, Refused}
-use Rattle.state.specs.Slots.{busyb, slotNumber, forgotten, withSlot}
+use Rattle.state.specs.Slots.{busyb, slotNumber, dataEndpoint, forgotten, withSlot}
 use Rattle.state.specs.Fresh.{slotAt}
 use Rattle.state.specs.Numbers.{refusalNumber}
 use Rattle.state.specs.Awaiting.{awaitingb}
 use Rattle.state.specs.Refusals.{Due, _if_, firstDue, Bound, bound}
 use Rattle.sound.specs.Sound.{soundb}
 use Rattle.sound.specs.Turn.{admitted-room}
-use Rattle.regs_endpoint.specs.Endpoint.{abortOps}
+use Rattle.regs_endpoint.specs.Endpoint.{abortBusyOps}
 use Rattle.transfer.specs.declared.AbandonAnswer.{AbandonAnswer}
 use Rattle.transfer.specs.declared.AbandonAnswer.the-variants as abandon
-use Rattle.transfer.specs.Begin.{dataEndpoint}
 
 abbrev pub abandonDues : State → Events → ℕ → ℕ → List Due
 abandonDues s v e room =
@@ -53,7 +52,7 @@ abandonStateAt (Refused r) s i x = s
 
 -- a busy transfer's chain is aborted
 abbrev pub abandonOpsAt : Check → ℕ → Bool → Slot → List Op
-abandonOpsAt Fits e incoming x = cond (busyb (x .phase)) (abortOps e incoming) []
+abandonOpsAt Fits e incoming x = abortBusyOps e incoming (busyb (x .phase))
 abandonOpsAt (Refused r) e incoming x = []
 
 unfoldable pub abandonAnswer : State → Events → ℕ → Bool → ℕ → AbandonAnswer

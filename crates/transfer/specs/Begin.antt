@@ -15,7 +15,7 @@ use Rattle.state.specs.declared.Events.{Events}
 use Rattle.state.specs.declared.Refusal.the-variants.{ListTooShort, Unsound, OutOfTurn, NoDataEndpoint, Disabled, InHand, UnfitBuffer}
 use Rattle.state.specs.declared.Check.{Check}
 use Rattle.state.specs.declared.Check.the-variants.{Fits, Refused}
-use Rattle.state.specs.Slots.{idleb, slotNumber, withSlot}
+use Rattle.state.specs.Slots.{idleb, slotNumber, dataEndpoint, withSlot}
 use Rattle.state.specs.Fresh.{slotAt}
 use Rattle.state.specs.Numbers.{refusalNumber, checkNumber}
 use Rattle.state.specs.Awaiting.{awaitingb}
@@ -27,10 +27,6 @@ use Rattle.chains.specs.Chains.{chainLimit, slotSize, queuedSlot, queueOps, que
 use Rattle.window.specs.Window.{windowsOps, windows-room}
 use Rattle.transfer.specs.declared.BeginAnswer.{BeginAnswer}
 use Rattle.transfer.specs.declared.BeginAnswer.the-variants as begin
-
--- the endpoints that have transfers
-abbrev pub dataEndpoint : ℕ → Bool
-dataEndpoint e = leb 1 e && leb e 7
 
 -- what is to be moved: where, how many bytes, and whether an empty packet closes it
 pub record Piece : Type 0 where

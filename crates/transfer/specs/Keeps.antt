@@ -13,7 +13,7 @@ use Rattle.state.specs.declared.State.{State}
 use Rattle.state.specs.declared.Events.{Events}
 use Rattle.state.specs.declared.Check.{Check}
 use Rattle.state.specs.declared.Check.the-variants.{Fits, Refused}
-use Rattle.state.specs.Slots.{idleb, busyb, slotNumber}
+use Rattle.state.specs.Slots.{dataEndpoint, idleb, busyb, slotNumber}
 use Rattle.state.specs.Fresh.{slotAt}
 use Rattle.state.specs.Refusals.{none-due, not-due}
 use Rattle.state.specs.Each.{and-left, and-right, true-not-false}
@@ -23,7 +23,7 @@ use Rattle.sound.specs.Sound.{soundb, slotb}
 use Rattle.sound.specs.Facts.{in-ram, Ready, OutFacts, BusyFacts, changed-sound, multiple-facts, in-slot, out-slot, one-slot-kept, idled-sound}
 use Rattle.chains.specs.Chains.{chainLimit, slotSize, queuedSlot, nextChain}
 use Rattle.chains.specs.Laws.{sent-within, whole-of, chainMoves, Inside, chain-inside}
-use Rattle.transfer.specs.Begin.{Piece, dataEndpoint, pieceFits, ready, beginDues, beginCheck, begunSlot, begunAt, beginStateAt, beginState}
+use Rattle.transfer.specs.Begin.{Piece, pieceFits, ready, beginDues, beginCheck, begunSlot, begunAt, beginStateAt, beginState}
 use Rattle.transfer.specs.Take.{takeDues, takeCheck, takenSlot, takeOf, takeAt, takeResult}
 use Rattle.transfer.specs.Abandon.{abandonCheck, abandonedSlot, abandonStateAt, abandonState}
 

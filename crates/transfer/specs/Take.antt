@@ -11,7 +11,7 @@ use Rattle.state.specs.declared.Events.{Events}
 use Rattle.state.specs.declared.Refusal.the-variants.{Unsound, OutOfTurn, NoDataEndpoint, Disabled}
 use Rattle.state.specs.declared.Check.{Check}
 use Rattle.state.specs.declared.Check.the-variants.{Fits, Refused}
-use Rattle.state.specs.Slots.{idleb, busyb, slotNumber, withSlot}
+use Rattle.state.specs.Slots.{idleb, busyb, slotNumber, dataEndpoint, withSlot}
 use Rattle.state.specs.Fresh.{slotAt}
 use Rattle.state.specs.Numbers.{refusalNumber}
 use Rattle.state.specs.Awaiting.{awaitingb}
@@ -21,7 +21,6 @@ use Rattle.sound.specs.Sound.{soundb}
 use Rattle.transfer.specs.declared.TakeAnswer.{TakeAnswer}
 use Rattle.transfer.specs.declared.TakeAnswer.the-variants as take
 use Rattle.transfer.specs.declared.TakeResult.{TakeResult}
-use Rattle.transfer.specs.Begin.{dataEndpoint}
 
 -- 7 and 22, of a slot that is idle or not
 abbrev pub waitingDues : ℕ → Bool → List Due

@@ -1,8 +1,7 @@
 // Transfers on the data endpoints 1 to 7: begun, taken, abandoned (reference: `run` of endpoint.rs).
 ghost use mathlib.Core.Path.{_≡_};
 ghost use Prim.Native.Nat.{_≤_};
-ghost use mathlib.Core.Bool.{false, cond};
-ghost use mathlib.Core.List.{[]};
+ghost use mathlib.Core.Bool.{false};
 ghost use lib.ListN.{length as listLength};
 ghost use Rattle.ops.specs.Ops.{records};
 ghost use Rattle.ops.specs.Wrote.{Wrote};
@@ -13,8 +12,7 @@ ghost use Rattle.state.specs.Slots.{slotNumber};
 ghost use Rattle.state.specs.Fresh.{slotAt};
 ghost use Rattle.state.specs.Waking.{noWakes};
 ghost use Rattle.sound.specs.Turn.{inTurn};
-ghost use Rattle.regs_endpoint.specs.Endpoint.{abortOps};
-ghost use Rattle.transfer.specs.Begin.{piece, dataEndpoint, pieceFits, ready, slotDues, begunSlot, begunState, begunOps, beginCheck, beginAnswer, beginState, beginOps, beginNumber};
+ghost use Rattle.transfer.specs.Begin.{piece, pieceFits, ready, slotDues, begunSlot, begunState, begunOps, beginCheck, beginAnswer, beginState, beginOps, beginNumber};
 ghost use Rattle.transfer.specs.declared.BeginAnswer.the-variants.{Begun};
 ghost use Rattle.transfer.specs.Take.{waitingDues, takenSlot, takeAt, takeResult, takeNumbers, takeSays};
 ghost use Rattle.transfer.specs.Abandon.{settleTime, abandonCheck, abandonAnswerAt, abandonStateAt, abandonOpsAt, abandonAnswer, abandonState, abandonOps, abandonNumbers, abandonSays};
@@ -66,12 +64,6 @@ pub struct AbandonResult {
     pub wakes: Wakes,
 }
 
-fn is_data_endpoint(index: u8) -> bool
-    ensures { λ r. ⌜ r ≡ dataEndpoint index ⌝ }
-{
-    (1 <= index) & (index <= 7)
-}
-
 // Whether the controller can move a piece of memory in this direction.
 fn piece_fits(incoming: bool, m: u16, address: u32, length: u32) -> bool
     ensures { λ r. ⌜ r ≡ pieceFits incoming m (piece address length false) ⌝ }
@@ -97,7 +89,7 @@ fn slot_check(
 {
     let phase = slot.phase;
     let idle = state::slots::is_idle(phase);
-    let data = is_data_endpoint(index);
+    let data = state::slots::is_data_endpoint(index);
     let able = (powered & slot.enabled) & !slot.stalled;
     let fits = piece_fits(incoming, slot.config.max_packet_size, address, length);
     let buffer = state::refusals::first(!fits, Refusal::UnfitBuffer, Check::Fits);
@@ -217,7 +209,7 @@ pub fn begin(
 fn take_check(state: State, events: Events, index: u8, idle: bool) -> Check
     ensures { λ r. ⌜ r ≡ inTurn state events (firstDue (waitingDues index idle)) ⌝ }
 {
-    let data = is_data_endpoint(index);
+    let data = state::slots::is_data_endpoint(index);
     let waiting = state::refusals::first(idle, Refusal::Disabled, Check::Fits);
     let further = state::refusals::first(!data, Refusal::NoDataEndpoint, waiting);
     sound::in_turn(state, events, further)
@@ -295,7 +287,7 @@ pub fn take(state: State, events: Events, index: u8, incoming: bool) -> TakeResu
 fn abandon_check(room: usize, state: State, events: Events, index: u8) -> Check
     ensures { λ r. ⌜ r ≡ abandonCheck state events index room ⌝ }
 {
-    let data = is_data_endpoint(index);
+    let data = state::slots::is_data_endpoint(index);
     let further = state::refusals::first(!data, Refusal::NoDataEndpoint, Check::Fits);
     sound::admit(room, state, events, further)
 }
@@ -305,16 +297,6 @@ fn settle_time(incoming: bool, busy: bool) -> u32
     ensures { λ r. ⌜ r ≡ settleTime incoming busy ⌝ }
 {
     if incoming & busy { 100 } else { 0 }
-}
-
-fn abort_busy(ops: &mut [u32], index: u8, incoming: bool, busy: bool) -> usize
-    requires { ⌜ records 3 ≤ listLength (now ops) ⌝ }
-    ensures { λ r. ⌜ Wrote (now (ops .entry)) 0 (cond busy (abortOps index incoming) []) r (now (ops .exit)) ⌝ }
-{
-    if busy {
-        return regs_endpoint::abort(ops, 0, index as u32, incoming);
-    }
-    0
 }
 
 fn abandoned(ops: &mut [u32], state: State, index: u8, incoming: bool) -> AbandonResult
@@ -327,7 +309,7 @@ fn abandoned(ops: &mut [u32], state: State, index: u8, incoming: bool) -> Abando
     let slot = state::slots::slot_at(state, i);
     let phase = slot.phase;
     let busy = state::slots::is_busy(phase);
-    let end = abort_busy(ops, index, incoming, busy);
+    let end = regs_endpoint::abort_busy(ops, 0, index as u32, incoming, busy);
     let y = state::slots::forget(slot, true, slot.enabled, slot.stalled);
     let s = state::slots::with_slot(state, i, y);
     let settle = settle_time(incoming, busy);

@@ -1,6 +1,6 @@
 -- `stall_ops`: what ends the chain, then the stall or its end. Assumes nothing.
 use borrow.Author.Needs.{needs}
-use Rattle.orders.specs.Orders.{aborted-room}
+use Rattle.regs_endpoint.specs.Endpoint.{abort-busy-room}
 use Rattle.ops.specs.Wrote.{_▹_, wrote-length}
 use native.Mathlib.Omega.{arith}
 use Rattle.orders.proofs.stall_ops.Statement.{statement}
@@ -10,7 +10,7 @@ abort-busy-requires : tie.Need-abort-busy-requires
 abort-busy-requires c κs = search needs
 
 halt-requires : tie.Need-halt-requires
-halt-requires c κs = let a = c .before .before .before .before in omega (arith, a .abort-busy .ensures .end, wrote-length (a .abort-busy .ensures), aborted-room (a .before .before .before .args .index) (a .before .before .before .args .incoming) (a .before .before .before .args .busy))
+halt-requires c κs = let a = c .before .before .before .before in omega (arith, a .abort-busy .ensures .end, wrote-length (a .abort-busy .ensures), abort-busy-room (a .before .before .before .args .index) (a .before .before .before .args .incoming) (a .before .before .before .args .busy))
 
 same-length : tie.Need-same-length
 same-length c = search needs
@@ -22,7 +22,7 @@ returns c =
     rw (t .if1 .taken) (t .before .before .before .abort-busy .ensures ▹ p .halt .ensures)
 
 clear-requires : tie.Need-clear-requires
-clear-requires c κs = let a = c .before .before .before .before in omega (arith, a .abort-busy .ensures .end, wrote-length (a .abort-busy .ensures), aborted-room (a .before .before .before .args .index) (a .before .before .before .args .incoming) (a .before .before .before .args .busy))
+clear-requires c κs = let a = c .before .before .before .before in omega (arith, a .abort-busy .ensures .end, wrote-length (a .abort-busy .ensures), abort-busy-room (a .before .before .before .args .index) (a .before .before .before .args .incoming) (a .before .before .before .args .busy))
 
 same-length-2 : tie.Need-same-length-2
 same-length-2 c = search needs

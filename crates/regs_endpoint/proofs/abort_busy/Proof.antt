@@ -1,8 +1,8 @@
 -- `abort_busy`: where there is a chain. Assumes nothing.
 use borrow.Author.Needs.{needs}
 use Rattle.ops.specs.Wrote.{none}
-use Rattle.transfer.proofs.abort_busy.Statement.{statement}
-use Rattle.transfer.proofs.abort_busy.Tie as tie
+use Rattle.regs_endpoint.proofs.abort_busy.Statement.{statement}
+use Rattle.regs_endpoint.proofs.abort_busy.Tie as tie
 
 abort-requires : tie.Need-abort-requires
 abort-requires c κs = search needs
