@@ -93,7 +93,7 @@ ready incoming =
       transfer = freshSlot .transfer;
       tally = freshSlot .tally;
     }))
-    0 true false
+    0 true false 0
 
 abbrev nothingPending : Events
 nothingPending = record { events = 0 }

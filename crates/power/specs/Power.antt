@@ -55,7 +55,7 @@ on-length s revision h = rw h (longest revision (s .«ep0_address») false .0)
 -- every transfer is cut and a waiting SETUP dropped, also where the device is off already; the registers of one that is
 -- off are left alone
 abbrev pub offState : State → State
-offState s = stateWith s (change (slotReset false) 16 (s .endpoints)) (s .«ep0_address») false false
+offState s = stateWith s (change (slotReset false) 16 (s .endpoints)) (s .«ep0_address») false false (s .wake)
 
 abbrev pub shutOps : Bool → List Op
 shutOps powered = cond powered shutdownOps []

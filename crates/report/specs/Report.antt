@@ -9,7 +9,7 @@ use Rattle.state.specs.declared.Phase.the-variants.{Done}
 use Rattle.state.specs.declared.Transfer.{Transfer}
 use Rattle.state.specs.declared.Slot.{Slot}
 use Rattle.state.specs.declared.State.{State}
-use Rattle.state.specs.Slots.{busyb, slotNumber, withSlot}
+use Rattle.state.specs.Slots.{busyb, slotNumber, stateWith, withSlot}
 use Rattle.state.specs.Fresh.{slotAt}
 use Rattle.state.specs.Waking.{addSlot}
 use Rattle.regs_endpoint.specs.Endpoint.{chainAckOps}
@@ -43,25 +43,7 @@ doneSlot x = movedSlot x Done (x .transfer)
 
 -- the slots that the end of the interrupt wakes, one more among them
 abbrev pub woken : State → ℕ → State
-woken s i =
-    record {
-      endpoints = s .endpoints;
-      «ep0_address» = s .«ep0_address»;
-      powered = s .powered;
-      suspended = s .suspended;
-      wake = addSlot (s .wake) i;
-      «has_setup» = s .«has_setup»;
-      setup = s .setup;
-      «control_generation» = s .«control_generation»;
-      «in_last» = s .«in_last»;
-      «tx_seq» = s .«tx_seq»;
-      «has_address» = s .«has_address»;
-      address = s .address;
-      revision = s .revision;
-      «reset_seen» = s .«reset_seen»;
-      «low_power» = s .«low_power»;
-      awaited = s .awaited;
-    }
+woken s i = stateWith s (s .endpoints) (s .«ep0_address») (s .powered) (s .«has_setup») (addSlot (s .wake) i)
 
 abbrev pub stateAfter : State → ℕ → Bool → Step → State
 stateAfter s i incoming Ignored = s

@@ -57,7 +57,7 @@ started-next s₀ s d i y h e = change-next-of (startedSlot d) s₀ s i y h e
 
 -- EP0 gets the start of the memory; the device is off, and no SETUP waits
 abbrev pub startedState : State → Driver → State
-startedState s d = stateWith s (startedSlots d 16 (s .endpoints)) (d .memory) false false
+startedState s d = stateWith s (startedSlots d 16 (s .endpoints)) (d .memory) false false (s .wake)
 
 abbrev pub startDues : State → Events → Driver → ℕ → List Due
 startDues s e d size =

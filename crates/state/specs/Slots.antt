@@ -59,15 +59,15 @@ pub bit-small : (b : Bool) → bit b ≤ 1
 bit-small true = omega arith
 bit-small false = omega arith
 
--- the state with other slots, EP0 memory, power and waiting SETUP
-abbrev pub stateWith : State → List Slot → ℕ → Bool → Bool → State
-stateWith s slots memory powered waits =
+-- the state with other slots, EP0 memory, power, waiting SETUP and slots to wake
+abbrev pub stateWith : State → List Slot → ℕ → Bool → Bool → ℕ → State
+stateWith s slots memory powered waits wake =
     record {
       endpoints = slots;
       «ep0_address» = memory;
       powered = powered;
       suspended = s .suspended;
-      wake = s .wake;
+      wake = wake;
       «has_setup» = waits;
       setup = s .setup;
       «control_generation» = s .«control_generation»;
@@ -83,7 +83,7 @@ stateWith s slots memory powered waits =
 
 -- with other slots alone
 abbrev pub withSlots : State → List Slot → State
-withSlots s slots = stateWith s slots (s .«ep0_address») (s .powered) (s .«has_setup»)
+withSlots s slots = stateWith s slots (s .«ep0_address») (s .powered) (s .«has_setup») (s .wake)
 
 -- with one other slot
 abbrev pub withSlot : State → ℕ → Slot → State
