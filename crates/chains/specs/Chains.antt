@@ -1,5 +1,5 @@
--- The chains of a transfer (document 01, "device.rs, transfers"). The most packets of a chain is a parameter, `limit`; M
--- is `m`.
+-- The chains of a transfer (document 01, "device.rs, transfers"). How many packets a chain may
+-- have is a parameter, `limit`; M is `m`.
 -- Assumes nothing.
 use Prim.Native.Nat.{ℕ, zero, suc, _+_, _*_, _-_, _/_, _%_, _^_, _≤_, _<_, min, max}
 use mathlib.Core.Path.{_≡_, refl, sym, _∙_}
@@ -40,7 +40,7 @@ left t = t .length - t .progress
 abbrev pub place : Transfer → ℕ
 place t = (t .address + t .progress) % 2 ^ 32
 
--- an IN chain: all packets but the last are full. The empty packet comes from the endpoint's own buffer.
+-- an IN chain: every packet is full but the last. The empty packet comes from the endpoint's own buffer.
 abbrev pub inChain : ℕ → ℕ → ℕ → Transfer → Chain
 inChain limit m own t =
     record {

@@ -11,7 +11,7 @@ use state::Phase;
 use state::Slot;
 use state::Transfer;
 
-// The most packets of a chain.
+// How many packets a chain may have.
 pub const CHAIN_PACKETS: u8 = 255;
 
 // Packets from `dma` on: those of IN send `bytes`, the last packet `last` of them, and bring the transfer to `progress`.

@@ -1,4 +1,4 @@
--- Sets of slots, slot n at bit n, and what a call wakes.
+-- Sets of slots, a bit for each, and what a call wakes.
 -- Assumes nothing.
 use Prim.Native.Nat.{ℕ, zero, suc, _+_, _*_, _-_, _/_, _%_, _^_, _<_}
 use mathlib.Core.Bool.{Bool, true, false, cond}

@@ -1,4 +1,4 @@
-// Sets of slots, slot n at bit n.
+// Sets of slots: each has the bit of its number.
 ghost use mathlib.Core.Path.{_≡_};
 ghost use Rattle.state.specs.Waking.{slotSet, addSlot, noWakes, wakeSlot, wakeAll};
 use super::Wakes;

@@ -1,4 +1,4 @@
-// Prints the tally of each configured slot after a script of its own.
+// Runs a script of calls, and prints the tally of each configured slot.
 mod print;
 mod script;
 

@@ -115,7 +115,7 @@ fn begin_check(
     sound::admit(room, state, events, further)
 }
 
-// The slot with a transfer in hand, of which nothing is moved yet.
+// The slot that has taken a transfer on, with nothing of it moved.
 fn begun_slot(slot: Slot, address: u32, length: u32, zlp: bool) -> Slot
     ensures { λ r. ⌜ r ≡ begunSlot slot (piece address length zlp) ⌝ }
 {

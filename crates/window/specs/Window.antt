@@ -19,7 +19,7 @@ use Rattle.regs_endpoint.specs.Endpoint.{windowOps}
 abbrev pub inHandCount : State → ℕ → ℕ
 inHandCount s n = count (λ k. not (idleb (slotAt s (k + 2) .phase))) n
 
--- 4 if over one data slot isn't idle, else 3
+-- 4 where two data slots or more aren't idle, else 3
 unfoldable pub outWindow : State → ℕ
 outWindow s = cond (ltb 1 (inHandCount s 14)) 4 3
 

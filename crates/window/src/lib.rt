@@ -1,11 +1,13 @@
 // The window of OUT endpoints (reference: `out_window` and `start` of device.rs).
 ghost use mathlib.Core.Path.{_≡_};
 ghost use Prim.Native.Nat.{_+_, _≤_, _<_};
+ghost use mathlib.Core.Bool.{cond};
+ghost use mathlib.Core.List.{[]};
 ghost use lib.ListN.{length};
 ghost use Rattle.ops.specs.Ops.{records};
-ghost use Rattle.ops.specs.Sequence.{upTo};
 ghost use Rattle.ops.specs.Wrote.{Wrote};
-ghost use Rattle.window.specs.Window.{inHandCount, outWindow, windowAt, windowsOps, ownWindowOps};
+ghost use Rattle.regs_endpoint.specs.Endpoint.{windowOps};
+ghost use Rattle.window.specs.Window.{inHandCount, outWindow, windowsOps, ownWindowOps};
 use state::State;
 
 // How many data slots have a transfer in hand. EP0's slots, 0 and 1, don't count.
@@ -33,15 +35,11 @@ pub fn out_window(state: State) -> u32
     if 1 < count { 4 } else { 3 }
 }
 
-// The window of one OUT endpoint, where it is busy.
-fn window_at(ops: &mut [u32], at: usize, state: State, window: u32, index: u8) -> usize
+// The window of an OUT endpoint, where it is busy.
+fn window_at(ops: &mut [u32], at: usize, busy: bool, window: u32, index: u8) -> usize
     requires { ⌜ at + records 1 ≤ length (now ops) ⌝ }
-    ensures { λ r. ⌜ Wrote (now (ops .entry)) at (windowAt state window index) r (now (ops .exit)) ⌝ }
+    ensures { λ r. ⌜ Wrote (now (ops .entry)) at (cond busy (windowOps index window) []) r (now (ops .exit)) ⌝ }
 {
-    let i = state::slots::slot_number(index, false);
-    let x = state::slots::slot_at(state, i);
-    let phase = x.phase;
-    let busy = state::slots::is_busy(phase);
     if busy {
         return regs_endpoint::set_out_window(ops, at, index as u32, window);
     }
@@ -58,7 +56,11 @@ pub fn set_windows(ops: &mut [u32], at: usize, state: State) -> usize
     let mut k: u8 = 0;
     while k < 7 {
         let index = k + 1;
-        a = window_at(ops, a, state, window, index);
+        let i = state::slots::slot_number(index, false);
+        let x = state.endpoints[i];
+        let phase = x.phase;
+        let busy = state::slots::is_busy(phase);
+        a = window_at(ops, a, busy, window, index);
         k = index;
     }
     a

@@ -3,7 +3,7 @@ use borrow.Author.Needs.{needs}
 use native.Mathlib.Omega.{arith}
 use mathlib.Core.Path.{_≡_}
 use Prim.Native.Nat.{_≤_, _-_}
-use Rattle.ops.specs.Wrote.{Wrote, wrote-length}
+use Rattle.ops.specs.Wrote.{Wrote, same, wrote-length}
 use Rattle.ops.specs.Sequence.{upTo, upTo-start, upTo-next}
 use Rattle.window.specs.Window.{windowAt, windowsOps, windows-most}
 use Rattle.window.proofs.set_windows.Statement.{statement}
@@ -24,10 +24,23 @@ loop-holds c = (search needs, upTo-start _ _ _)
 add-index : tie.Need-add-index Inv-loop μ-loop
 add-index c = search needs
 
+slot-number-requires : tie.Need-slot-number-requires Inv-loop μ-loop
+slot-number-requires c κs = search needs
+
+mul-x : tie.Need-mul-x Inv-loop μ-loop
+mul-x c = search needs
+
+element-copy-out-x : tie.Need-element-copy-out-x Inv-loop μ-loop
+element-copy-out-x c = search needs
+
+is-busy-requires : tie.Need-is-busy-requires Inv-loop μ-loop
+is-busy-requires c κs = search needs
+
 window-at-requires : tie.Need-window-at-requires Inv-loop μ-loop
 window-at-requires c κs =
-    let l = c .before .before .loop in
-    omega (arith, wrote-length (l .inv .1), l .inv .1 .end, windows-most (c .before .before .before .before .before .args .state) (c .before .before .before .out-window .result) (l .k))
+    let l = c .before .before .before .before .before .loop in
+    let w = c .before .before .before .before .before .before in
+    omega (arith, wrote-length (l .inv .1), l .inv .1 .end, windows-most (w .before .before .args .t3) (w .out-window .result) (l .k))
 
 loop-less : tie.Need-loop-less Inv-loop μ-loop
 loop-less c = search needs
@@ -35,8 +48,10 @@ loop-less c = search needs
 loop-again : tie.Need-loop-again Inv-loop μ-loop
 loop-again c =
     let w = c .before .before in
-    let l = w .before .before .before .loop in
-    (search needs, upTo-next _ (l .k) (l .inv .1) (w .window-at .ensures))
+    let b = w .before .before in
+    let n = b .before .before in
+    let l = n .before .before .loop in
+    (search needs, upTo-next _ (l .k) (l .inv .1) (same (rw (b .is-busy .ensures, n .slot-number .ensures)) (w .window-at .ensures)))
 
 same-length : tie.Need-same-length Inv-loop μ-loop
 same-length c = wrote-length (c .before .loop .inv .1)
@@ -57,6 +72,10 @@ set-windows-spec =
     out-window-requires
     loop-holds
     add-index
+    slot-number-requires
+    mul-x
+    element-copy-out-x
+    is-busy-requires
     window-at-requires
     loop-less
     loop-again
