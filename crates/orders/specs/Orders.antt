@@ -1,14 +1,13 @@
 -- Stall and enable orders (reference: `with_endpoint`, `set_endpoint_stalled` and `endpoint_set_enabled` of device.rs).
 -- Assumes nothing.
 use Prim.Native.Nat.{ℕ, _≤_}
-use native.Mathlib.Omega.{arith}
 use mathlib.Core.Path.{_≡_, refl}
 use mathlib.Core.Bool.{Bool, true, false, _&&_, not, cond}
 use mathlib.Core.List.{List, [], _∷_, _++_}
-use lib.Dec.{leb, ltb}
+use lib.Dec.{ltb}
 use lib.ListN.{length}
-use Rattle.ops.specs.Ops.{Op, flat, records}
-use Rattle.ops.specs.Wrote.{Wrote, none}
+use Rattle.ops.specs.Ops.{Op, flat}
+use Rattle.ops.specs.Wrote.{Wrote}
 use Rattle.state.specs.declared.EndpointType.{EndpointType}
 use Rattle.state.specs.declared.EndpointType.the-variants as kind
 use Rattle.state.specs.declared.Slot.{Slot}
@@ -28,6 +27,8 @@ use Rattle.state.specs.Refusals.{Due, _if_, firstDue, Bound, bound}
 use Rattle.sound.specs.Sound.{soundb}
 use Rattle.sound.specs.Turn.{admitted-room}
 use Rattle.regs_endpoint.specs.Endpoint.{abortBusyOps, haltOps, clearOps, configureOps, enableOps}
+use Rattle.orders.specs.declared.Order.{Order}
+use Rattle.orders.specs.declared.Order.the-variants.{Stall, Enable}
 use Rattle.orders.specs.declared.OrderAnswer.{OrderAnswer}
 use Rattle.orders.specs.declared.OrderAnswer.the-variants as order
 use Rattle.orders.specs.declared.OrderResult.{OrderResult}
@@ -42,67 +43,46 @@ isochronous kind.Interrupt = false
 abbrev pub slotOf : State → ℕ → Bool → Slot
 slotOf s index incoming = slotAt s (slotNumber index incoming)
 
--- an endpoint that orders reach: one of those, configured, while the device is powered
+-- orders reach a data endpoint that is configured, while the device is powered
 abbrev pub reached : State → ℕ → Bool → Bool
 reached s index incoming = dataEndpoint index && (s .powered && slotOf s index incoming .configured)
 
--- what an order comes to: whether the endpoint is fit for it and, where it is, the slot and the operations that it makes
-pub record Order : Type 0 where
-  pub fit : Bool
-  pub slot : Slot
-  pub ops : List Op
+-- a stall order wants an enabled endpoint, an enable order any
+abbrev pub ready : Order → Bool → Bool
+ready (Stall stalled) enabled = enabled
+ready (Enable on) enabled = true
 
--- a stall order wants an enabled endpoint. It cuts a transfer in hand; the chain of a busy one is ended first.
-abbrev pub stallOps : ℕ → Bool → Bool → Bool → List Op
-stallOps index incoming busy stalled = abortBusyOps index incoming busy ++ cond stalled (haltOps index incoming) (clearOps index incoming)
+abbrev pub fit : State → ℕ → Bool → Order → Bool
+fit s index incoming o = reached s index incoming && ready o (slotOf s index incoming .enabled)
 
-unfoldable pub stallOrder : State → ℕ → Bool → Bool → Order
-stallOrder s index incoming stalled =
-    record {
-      fit = reached s index incoming && slotOf s index incoming .enabled;
-      slot = forgotten (slotOf s index incoming) true (slotOf s index incoming .enabled) stalled;
-      ops = stallOps index incoming (busyb (slotOf s index incoming .phase)) stalled;
-    }
+-- the slot behind an order: either cuts a transfer in hand
+abbrev pub orderedSlot : Order → Slot → Slot
+orderedSlot (Stall stalled) x = forgotten x true (x .enabled) stalled
+orderedSlot (Enable enabled) x = resetSlot x true enabled
 
--- an enable order cuts a transfer in hand; the endpoint is switched off before it is set up anew or cleared
-abbrev pub switchOps : ℕ → Bool → Bool → Bool → List Op
-switchOps index incoming iso enabled =
-    enableOps index incoming false ++ cond enabled (configureOps index incoming iso ++ enableOps index incoming true) (clearOps index incoming)
-
-unfoldable pub enableOrder : State → ℕ → Bool → Bool → Order
-enableOrder s index incoming enabled =
-    record {
-      fit = reached s index incoming;
-      slot = resetSlot (slotOf s index incoming) true enabled;
-      ops = switchOps index incoming (isochronous (slotOf s index incoming .config .«ep_type»)) enabled;
-    }
+-- the operations on an endpoint that has this slot. A stall order first ends the chain of a busy transfer; an enable
+-- order has the endpoint off before it is set up anew or cleared.
+abbrev pub orderedOps : Order → ℕ → Bool → Slot → List Op
+orderedOps (Stall stalled) index incoming x =
+    abortBusyOps index incoming (busyb (x .phase)) ++ cond stalled (haltOps index incoming) (clearOps index incoming)
+orderedOps (Enable enabled) index incoming x =
+    enableOps index incoming false ++ cond enabled (configureOps index incoming (isochronous (x .config .«ep_type»)) ++ enableOps index incoming true) (clearOps index incoming)
 
 -- an order that isn't refused: its operations, the state behind it, and who is woken. On an unfit endpoint it makes no
 -- operation, yet a data endpoint's slot is woken.
-abbrev pub madeOps : Order → List Op
-madeOps o = cond (o .fit) (o .ops) []
+abbrev pub madeOps : State → ℕ → Bool → Order → List Op
+madeOps s index incoming o = cond (fit s index incoming o) (orderedOps o index incoming (slotOf s index incoming)) []
 
 abbrev pub madeState : State → ℕ → Bool → Order → State
-madeState s index incoming o = cond (o .fit) (withSlot s (slotNumber index incoming) (o .slot)) s
+madeState s index incoming o =
+    cond (fit s index incoming o) (withSlot s (slotNumber index incoming) (orderedSlot o (slotOf s index incoming))) s
 
 abbrev pub orderWakes : ℕ → Bool → Wakes
 orderWakes index incoming = cond (dataEndpoint index) (wakeSlot (slotNumber index incoming)) noWakes
 
 abbrev pub madeResult : State → ℕ → Bool → Order → OrderResult
 madeResult s index incoming o =
-    record { answer = order.Ordered; state = madeState s index incoming o; end = length (flat (madeOps o)); wakes = orderWakes index incoming }
-
--- on a fit endpoint, and on another one
-pub made-fit : {before after : List ℕ} {end : ℕ} (s t : State) (index : ℕ) (incoming : Bool) (w : Wakes) (o : Order) → o .fit ≡ true
-    → t ≡ withSlot s (slotNumber index incoming) (o .slot) → w ≡ orderWakes index incoming → Wrote before 0 (o .ops) end after
-    → (record { answer = order.Ordered; state = t; end = end; wakes = w } ≡ madeResult s index incoming o) × (Wrote before 0 (madeOps o) end after)
-made-fit {end = end} s t index incoming w o h q v wrote =
-    let n : end ≡ length (flat (o .ops)) = omega (arith, wrote .end) in
-    (rw (h, q, v, n), rw h wrote)
-
-pub made-unfit : (l : List ℕ) (s : State) (index : ℕ) (incoming : Bool) (w : Wakes) (o : Order) → o .fit ≡ false → w ≡ orderWakes index incoming
-    → (record { answer = order.Ordered; state = s; end = 0; wakes = w } ≡ madeResult s index incoming o) × (Wrote l 0 (madeOps o) 0 l)
-made-unfit l s index incoming w o h v = (rw (h, v), rw h (none l 0))
+    record { answer = order.Ordered; state = madeState s index incoming o; end = length (flat (madeOps s index incoming o)); wakes = orderWakes index incoming }
 
 abbrev pub refusedOrder : Refusal → State → OrderResult
 refusedOrder r s = record { answer = order.Refused r; state = s; end = 0; wakes = noWakes }
@@ -122,16 +102,16 @@ pub order-room : (n : ℕ) (s : State) (e : Events) → orderCheck n s e ≡ Fit
 unfolding orderCheck
 order-room n s e h = admitted-room n s e Fits h
 
-abbrev pub opsAt : Check → Order → List Op
-opsAt Fits o = madeOps o
-opsAt (Refused r) o = []
+abbrev pub opsAt : Check → State → ℕ → Bool → Order → List Op
+opsAt Fits s index incoming o = madeOps s index incoming o
+opsAt (Refused r) s index incoming o = []
 
 abbrev pub resultAt : Check → State → ℕ → Bool → Order → OrderResult
 resultAt Fits s index incoming o = madeResult s index incoming o
 resultAt (Refused r) s index incoming o = refusedOrder r s
 
-unfoldable pub orderOps : ℕ → State → Events → Order → List Op
-orderOps n s e o = opsAt (orderCheck n s e) o
+unfoldable pub orderOps : ℕ → State → Events → ℕ → Bool → Order → List Op
+orderOps n s e index incoming o = opsAt (orderCheck n s e) s index incoming o
 
 unfoldable pub orderResult : ℕ → State → Events → ℕ → Bool → Order → OrderResult
 orderResult n s e index incoming o = resultAt (orderCheck n s e) s index incoming o
@@ -145,12 +125,12 @@ orderNumber (order.Refused r) = refusalNumber r
 abbrev pub Told : OrderResult → List ℕ → List ℕ → State → Events → ℕ → Bool → Order → Type 0
 Told r before after s e index incoming o =
     (r ≡ orderResult (length before) s e index incoming o)
-    × ((Wrote before 0 (orderOps (length before) s e o) (r .end) after)
+    × ((Wrote before 0 (orderOps (length before) s e index incoming o) (r .end) after)
     × (orderNumber (r .answer) ≡ checkNumber (orderCheck (length before) s e)))
 
 -- by what the tests came to
 pub order-told : (c : Check) (r : OrderResult) (before after : List ℕ) (s : State) (e : Events) (index : ℕ) (incoming : Bool) (o : Order)
-    → orderCheck (length before) s e ≡ c → r ≡ resultAt c s index incoming o → Wrote before 0 (opsAt c o) (r .end) after
+    → orderCheck (length before) s e ≡ c → r ≡ resultAt c s index incoming o → Wrote before 0 (opsAt c s index incoming o) (r .end) after
     → Told r before after s e index incoming o
 unfolding orderResult orderOps
 order-told c r before after s e index incoming o h q w = (rw h q, (rw h w, rw (q, h) (number c)))
@@ -166,6 +146,6 @@ order-bound n s e = bound (orderDues n s e)
 
 -- A refused order leaves the state as it was, makes no operation and wakes nobody.
 pub refused-same : (n : ℕ) (s : State) (e : Events) (index : ℕ) (incoming : Bool) (o : Order) (q : Refusal) → orderCheck n s e ≡ Refused q
-    → (orderResult n s e index incoming o ≡ refusedOrder q s) × (orderOps n s e o ≡ [])
+    → (orderResult n s e index incoming o ≡ refusedOrder q s) × (orderOps n s e index incoming o ≡ [])
 unfolding orderResult orderOps
 refused-same n s e index incoming o q h = (rw h, rw h)

@@ -1,18 +1,26 @@
 // Orders on endpoints, and what can be asked of them (reference: `Bus` of device.rs).
 ghost use mathlib.Core.Path.{_≡_};
-ghost use Prim.Native.Nat.{_+_, _≤_};
+ghost use Prim.Native.Nat.{_≤_};
 ghost use lib.ListN.{length};
 ghost use Rattle.ops.specs.Ops.{records};
 ghost use Rattle.ops.specs.Wrote.{Wrote};
 ghost use Rattle.state.specs.Numbers.{checkNumber};
-ghost use Rattle.orders.specs.Orders.{isochronous, orderWakes, stallOps, switchOps, stallOrder, enableOrder, madeOps, madeResult, refusedOrder, orderCheck, orderOps, orderResult, orderNumber};
+ghost use Rattle.orders.specs.Orders.{isochronous, ready, orderedSlot, orderedOps, orderWakes, madeOps, madeResult, refusedOrder, orderCheck, orderOps, orderResult, orderNumber};
+ghost use Rattle.orders.specs.declared.Order.the-variants.{Stall, Enable};
 ghost use Rattle.orders.specs.Queries.{stalledb, enabledb, queryCheck, queryAnswer, queryNumbers, numbersAt};
 use state::Check;
 use state::EndpointType;
 use state::Events;
 use state::Refusal;
+use state::Slot;
 use state::State;
 use state::Wakes;
+
+// What can be asked of an endpoint: to answer STALL or no longer, to be on or off.
+enum Order {
+    Stall(bool),
+    Enable(bool),
+}
 
 pub enum OrderAnswer {
     Refused(Refusal),
@@ -54,36 +62,29 @@ fn wakes_of(index: u8, incoming: bool) -> Wakes
     state::waking::no_wakes()
 }
 
-fn stall_ops(
-    ops: &mut [u32],
-    at: usize,
-    index: u32,
-    incoming: bool,
-    busy: bool,
-    stalled: bool,
-) -> usize
-    requires { ⌜ at + records 7 ≤ length (now ops) ⌝ }
-    ensures { λ r. ⌜ Wrote (now (ops .entry)) at (stallOps index incoming busy stalled) r (now (ops .exit)) ⌝ }
+// Ends the chain of a busy transfer, then has the endpoint answer STALL or no longer.
+fn stall_ops(ops: &mut [u32], index: u32, incoming: bool, x: Slot, stalled: bool) -> usize
+    requires { ⌜ records 7 ≤ length (now ops) ⌝ }
+    ensures { λ r. ⌜ Wrote (now (ops .entry)) 0 (orderedOps (Stall stalled) index incoming x) r (now (ops .exit)) ⌝ }
 {
-    let a = regs_endpoint::abort_busy(ops, at, index, incoming, busy);
+    let phase = x.phase;
+    let busy = state::slots::is_busy(phase);
+    let a = regs_endpoint::abort_busy(ops, 0, index, incoming, busy);
     if stalled {
         return regs_endpoint::halt(ops, a, index, incoming);
     }
     regs_endpoint::clear(ops, a, index, incoming)
 }
 
-fn switch_ops(
-    ops: &mut [u32],
-    at: usize,
-    index: u32,
-    incoming: bool,
-    iso: bool,
-    enabled: bool,
-) -> usize
-    requires { ⌜ at + records 10 ≤ length (now ops) ⌝ }
-    ensures { λ r. ⌜ Wrote (now (ops .entry)) at (switchOps index incoming iso enabled) r (now (ops .exit)) ⌝ }
+// Off, then set up anew and on, or cleared.
+fn switch_ops(ops: &mut [u32], index: u32, incoming: bool, x: Slot, enabled: bool) -> usize
+    requires { ⌜ records 10 ≤ length (now ops) ⌝ }
+    ensures { λ r. ⌜ Wrote (now (ops .entry)) 0 (orderedOps (Enable enabled) index incoming x) r (now (ops .exit)) ⌝ }
 {
-    let a = regs_endpoint::set_enabled(ops, at, index, incoming, false);
+    let config = x.config;
+    let ep_type = config.ep_type;
+    let iso = is_isochronous(ep_type);
+    let a = regs_endpoint::set_enabled(ops, 0, index, incoming, false);
     if enabled {
         let b = regs_endpoint::configure(ops, a, index, incoming, iso);
         return regs_endpoint::set_enabled(ops, b, index, incoming, true);
@@ -91,22 +92,50 @@ fn switch_ops(
     regs_endpoint::clear(ops, a, index, incoming)
 }
 
-// A stall order that isn't refused.
-fn stall(ops: &mut [u32], state: State, index: u8, incoming: bool, stalled: bool) -> OrderResult
+// A stall order wants an enabled endpoint.
+fn is_ready(order: Order, enabled: bool) -> bool
+    ensures { λ r. ⌜ r ≡ ready order enabled ⌝ }
+{
+    match order {
+        Order::Stall(_) => enabled,
+        Order::Enable(_) => true,
+    }
+}
+
+fn ordered_slot(order: Order, x: Slot) -> Slot
+    ensures { λ r. ⌜ r ≡ orderedSlot order x ⌝ }
+{
+    match order {
+        Order::Stall(stalled) => state::slots::forget(x, true, x.enabled, stalled),
+        Order::Enable(enabled) => state::slots::reset(x, true, enabled),
+    }
+}
+
+fn ordered_ops(ops: &mut [u32], index: u32, incoming: bool, x: Slot, order: Order) -> usize
     requires { ⌜ 640 ≤ length (now ops) ⌝ }
-    ensures result { λ r. ⌜ r ≡ madeResult state index incoming (stallOrder state index incoming stalled) ⌝ }
-    ensures list { λ r. ⌜ Wrote (now (ops .entry)) 0 (madeOps (stallOrder state index incoming stalled)) (r .end) (now (ops .exit)) ⌝ }
+    ensures { λ r. ⌜ Wrote (now (ops .entry)) 0 (orderedOps order index incoming x) r (now (ops .exit)) ⌝ }
+{
+    match order {
+        Order::Stall(stalled) => stall_ops(ops, index, incoming, x, stalled),
+        Order::Enable(enabled) => switch_ops(ops, index, incoming, x, enabled),
+    }
+}
+
+// An order that isn't refused.
+fn make(ops: &mut [u32], state: State, index: u8, incoming: bool, order: Order) -> OrderResult
+    requires { ⌜ 640 ≤ length (now ops) ⌝ }
+    ensures result { λ r. ⌜ r ≡ madeResult state index incoming order ⌝ }
+    ensures list { λ r. ⌜ Wrote (now (ops .entry)) 0 (madeOps state index incoming order) (r .end) (now (ops .exit)) ⌝ }
 {
     let wakes = wakes_of(index, incoming);
     let there = state::slots::is_data_endpoint(index);
     let i = state::slots::slot_number(index, incoming);
     let x = state::slots::slot_at(state, i);
-    let phase = x.phase;
-    let busy = state::slots::is_busy(phase);
-    let y = state::slots::forget(x, true, x.enabled, stalled);
+    let ready = is_ready(order, x.enabled);
+    let y = ordered_slot(order, x);
     let s = state::slots::with_slot(state, i, y);
-    if there & (state.powered & x.configured) & x.enabled {
-        let end = stall_ops(ops, 0, index as u32, incoming, busy, stalled);
+    if there & (state.powered & x.configured) & ready {
+        let end = ordered_ops(ops, index as u32, incoming, x, order);
         return OrderResult {
             answer: OrderAnswer::Ordered,
             state: s,
@@ -122,38 +151,6 @@ fn stall(ops: &mut [u32], state: State, index: u8, incoming: bool, stalled: bool
     }
 }
 
-// An enable order that isn't refused.
-fn switch(ops: &mut [u32], state: State, index: u8, incoming: bool, enabled: bool) -> OrderResult
-    requires { ⌜ 640 ≤ length (now ops) ⌝ }
-    ensures result { λ r. ⌜ r ≡ madeResult state index incoming (enableOrder state index incoming enabled) ⌝ }
-    ensures list { λ r. ⌜ Wrote (now (ops .entry)) 0 (madeOps (enableOrder state index incoming enabled)) (r .end) (now (ops .exit)) ⌝ }
-{
-    let wakes = wakes_of(index, incoming);
-    let there = state::slots::is_data_endpoint(index);
-    let i = state::slots::slot_number(index, incoming);
-    let x = state::slots::slot_at(state, i);
-    let config = x.config;
-    let ep_type = config.ep_type;
-    let iso = is_isochronous(ep_type);
-    let y = state::slots::reset(x, true, enabled);
-    let s = state::slots::with_slot(state, i, y);
-    if there & (state.powered & x.configured) {
-        let end = switch_ops(ops, 0, index as u32, incoming, iso, enabled);
-        return OrderResult {
-            answer: OrderAnswer::Ordered,
-            state: s,
-            end: end,
-            wakes: wakes,
-        };
-    }
-    OrderResult {
-        answer: OrderAnswer::Ordered,
-        state: state,
-        end: 0,
-        wakes: wakes,
-    }
-}
-
 fn refused(refusal: Refusal, state: State) -> OrderResult
     ensures { λ r. ⌜ r ≡ refusedOrder refusal state ⌝ }
 {
@@ -166,10 +163,24 @@ fn refused(refusal: Refusal, state: State) -> OrderResult
     }
 }
 
-fn order_check(room: usize, state: State, events: Events) -> Check
-    ensures { λ r. ⌜ r ≡ orderCheck room state events ⌝ }
+// An order, refused or made.
+fn obey(
+    ops: &mut [u32],
+    state: State,
+    events: Events,
+    index: u8,
+    incoming: bool,
+    order: Order,
+) -> OrderResult
+    ensures result { λ r. ⌜ r ≡ orderResult (length (now (ops .entry))) state events index incoming order ⌝ }
+    ensures list { λ r. ⌜ Wrote (now (ops .entry)) 0 (orderOps (length (now (ops .entry))) state events index incoming order) (r .end) (now (ops .exit)) ⌝ }
+    ensures number { λ r. ⌜ orderNumber (r .answer) ≡ checkNumber (orderCheck (length (now (ops .entry))) state events) ⌝ }
 {
-    sound::admit(room, state, events, Check::Fits)
+    let check = sound::admit(ops.len(), state, events, Check::Fits);
+    match check {
+        Check::Fits => make(ops, state, index, incoming, order),
+        Check::Refused(refusal) => refused(refusal, state),
+    }
 }
 
 // Has an enabled endpoint answer STALL, or no longer. What is in hand there is cut.
@@ -181,15 +192,11 @@ pub fn endpoint_set_stalled(
     incoming: bool,
     stalled: bool,
 ) -> OrderResult
-    ensures result { λ r. ⌜ r ≡ orderResult (length (now (ops .entry))) state events index incoming (stallOrder state index incoming stalled) ⌝ }
-    ensures list { λ r. ⌜ Wrote (now (ops .entry)) 0 (orderOps (length (now (ops .entry))) state events (stallOrder state index incoming stalled)) (r .end) (now (ops .exit)) ⌝ }
+    ensures result { λ r. ⌜ r ≡ orderResult (length (now (ops .entry))) state events index incoming (Stall stalled) ⌝ }
+    ensures list { λ r. ⌜ Wrote (now (ops .entry)) 0 (orderOps (length (now (ops .entry))) state events index incoming (Stall stalled)) (r .end) (now (ops .exit)) ⌝ }
     ensures number { λ r. ⌜ orderNumber (r .answer) ≡ checkNumber (orderCheck (length (now (ops .entry))) state events) ⌝ }
 {
-    let check = order_check(ops.len(), state, events);
-    match check {
-        Check::Fits => stall(ops, state, index, incoming, stalled),
-        Check::Refused(refusal) => refused(refusal, state),
-    }
+    obey(ops, state, events, index, incoming, Order::Stall(stalled))
 }
 
 // Switches an endpoint on or off. What is in hand there is cut.
@@ -201,15 +208,11 @@ pub fn endpoint_set_enabled(
     incoming: bool,
     enabled: bool,
 ) -> OrderResult
-    ensures result { λ r. ⌜ r ≡ orderResult (length (now (ops .entry))) state events index incoming (enableOrder state index incoming enabled) ⌝ }
-    ensures list { λ r. ⌜ Wrote (now (ops .entry)) 0 (orderOps (length (now (ops .entry))) state events (enableOrder state index incoming enabled)) (r .end) (now (ops .exit)) ⌝ }
+    ensures result { λ r. ⌜ r ≡ orderResult (length (now (ops .entry))) state events index incoming (Enable enabled) ⌝ }
+    ensures list { λ r. ⌜ Wrote (now (ops .entry)) 0 (orderOps (length (now (ops .entry))) state events index incoming (Enable enabled)) (r .end) (now (ops .exit)) ⌝ }
     ensures number { λ r. ⌜ orderNumber (r .answer) ≡ checkNumber (orderCheck (length (now (ops .entry))) state events) ⌝ }
 {
-    let check = order_check(ops.len(), state, events);
-    match check {
-        Check::Fits => switch(ops, state, index, incoming, enabled),
-        Check::Refused(refusal) => refused(refusal, state),
-    }
+    obey(ops, state, events, index, incoming, Order::Enable(enabled))
 }
 
 fn answer(state: State, events: Events, says: bool) -> QueryAnswer

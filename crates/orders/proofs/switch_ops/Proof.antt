@@ -4,6 +4,9 @@ use Rattle.ops.specs.Wrote.{_▹_}
 use Rattle.orders.proofs.switch_ops.Statement.{statement}
 use Rattle.orders.proofs.switch_ops.Tie as tie
 
+is-isochronous-requires : tie.Need-is-isochronous-requires
+is-isochronous-requires c κs = search needs
+
 set-enabled-requires : tie.Need-set-enabled-requires
 set-enabled-requires c κs = search needs
 
@@ -21,7 +24,8 @@ returns c =
     let p = c .before .before in
     let q = p .before .before .before .before in
     let t = q .before .before in
-    rw (t .if1 .taken) (t .before .before .before .set-enabled .ensures ▹ (q .configure .ensures ▹ p .set-enabled2 .ensures))
+    let a = t .before .before .before in
+    rw (t .if1 .taken, ← a .before .before .is-isochronous .ensures) (a .set-enabled .ensures ▹ (q .configure .ensures ▹ p .set-enabled2 .ensures))
 
 clear-requires : tie.Need-clear-requires
 clear-requires c κs = search needs
@@ -39,6 +43,7 @@ pub switch-ops-spec : {M : Type 1} → statement M
 switch-ops-spec =
     tie.close
     (tie.spec
+    is-isochronous-requires
     set-enabled-requires
     configure-requires
     set-enabled-requires-2
