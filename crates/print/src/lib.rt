@@ -1,9 +1,10 @@
 // Prints records of register operations, registers and fields by name. A line's text is put together in a buffer and
 // written at once.
 ghost use Prim.Native.Nat.{_+_, _≤_};
-ghost use mathlib.Core.Path.{_≡_};
 ghost use lib.ListN.{length};
 ghost use Rattle.ops.specs.Ops.{records};
+ghost use Rattle.ops.specs.Stores.{Stored};
+ghost use Rattle.print.specs.Text.{NumberStored};
 use libc::STDOUT_FILENO;
 
 pub fn header() {
@@ -59,10 +60,11 @@ fn field_cell(text: &mut [u8], at: usize, field: u32) -> usize
     put(text, end, b"\t")
 }
 
-// A number's digits, put into the text at `at`: where they end.
+// A number's digits, put into the text at `at`: where they end. No fewer would do, and ten always do.
 pub fn put_number(text: &mut [u8], at: usize, n: u32) -> usize
     requires { ⌜ at + 10 ≤ length (now text) ⌝ }
-    ensures { λ r. ⌜ r ≤ at + 10 ⌝ }
+    ensures room { λ r. ⌜ r ≤ at + 10 ⌝ }
+    ensures digits { λ r. ⌜ NumberStored (now (text .entry)) at n r (now (text .exit)) ⌝ }
 {
     let mut digits = [0u8; 20];
     let count = io::decimal(n as u64, &mut digits);
@@ -72,7 +74,7 @@ pub fn put_number(text: &mut [u8], at: usize, n: u32) -> usize
 // Bytes, likewise.
 pub fn put(text: &mut [u8], at: usize, bytes: &[u8]) -> usize
     requires { ⌜ at + length (now bytes) ≤ length (now text) ⌝ }
-    ensures { λ r. ⌜ r ≡ at + length (now (bytes .entry)) ⌝ }
+    ensures { λ r. ⌜ Stored (now (text .entry)) at (now (bytes .entry)) r (now (text .exit)) ⌝ }
 {
     let n = bytes::copy(bytes, &mut text[at..]);
     at + n

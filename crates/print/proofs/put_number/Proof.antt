@@ -7,8 +7,9 @@ use borrow.Author.Tests.{leb-true, leb-false}
 use lib.Dec.{leb}
 use Rattle.io.specs.Digits.{Fewest}
 use native.Mathlib.Omega.{arith}
-use lib.ListN.{length, take}
+use lib.ListN.{length, take, length-take}
 use borrow.Author.Needs.{needs}
+use Rattle.print.specs.Text.{number-stored}
 use Rattle.print.proofs.put_number.Statement.{statement}
 use Rattle.print.proofs.put_number.Tie as tie
 
@@ -25,11 +26,13 @@ ten-digits n k small few = go (leb k 10) refl
         let large : 10 ^ 10 ≤ 10 ^ (k - 1) = pow-le-pow-right {n = 10} (omega arith) {i = 10} {j = k - 1} (omega arith) in
         omega (arith, small, large, few .2 (omega arith))
 
+count : (c : tie.After-decimal) → length (take (c .decimal .result) (c .decimal .last .1 .0)) ≡ c .decimal .result
+count c = omega (arith, c .decimal .ensures .0, length-take (c .decimal .result) (c .decimal .last .1 .0))
+
 few : (c : tie.After-decimal) → length (take (c .decimal .result) (c .decimal .last .1 .0)) ≤ 10
 few c =
-    let d = c .decimal .ensures in
     let n = c .before .before .before .args .n in
-    omega (arith, ten-digits n (c .decimal .result) (c .before .before .before .fits .n .fits) (d .1 .0), d .0)
+    omega (arith, ten-digits n (c .decimal .result) (c .before .before .before .fits .n .fits) (c .decimal .ensures .1 .0), count c)
 
 array-share-prefix-digits : tie.Need-array-share-prefix-digits
 array-share-prefix-digits c = search needs
@@ -46,7 +49,9 @@ same-length c = search needs
 returns : tie.Need-returns
 returns c =
     let p = c .before .before in
-    omega (arith, p .put .ensures, few (p .before .before .before))
+    let d = p .before .before .before in
+    let e = d .decimal .ensures in
+    (omega (arith, p .put .ensures .end, few d), number-stored _ _ _ _ _ _ _ (p .put .ensures) (e .1 .1) (count d) (e .1 .0))
 
 pub put-number-spec : {M : Type 1} → statement M
 put-number-spec =
