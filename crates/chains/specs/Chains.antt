@@ -62,7 +62,7 @@ sent t k = record { address = t .address; length = t .length; progress = k .prog
 abbrev pub reported : ℕ → ℕ → ℕ → ℕ → ℕ
 reported m expected p n = (min expected (max 1 p) - 1) * m + min n m
 
--- an OUT transfer after a report
+-- an OUT transfer after a report, which doesn't take it past its length. A sound one has room for all of it.
 abbrev pub arrived : ℕ → ℕ → Transfer → ℕ → ℕ → Transfer
 arrived limit m t p n =
     record {
