@@ -1,0 +1,504 @@
+//! Random lines of the listing's input, and random scripts, from a seed, with the edges favoured.
+use crate::calls::Calls;
+use crate::{ram, readings};
+
+pub struct Random(u64);
+
+impl Random {
+    pub fn new(seed: u64) -> Self {
+        Self(seed)
+    }
+
+    /// SplitMix64.
+    fn next(&mut self) -> u64 {
+        self.0 = self.0.wrapping_add(0x9E37_79B9_7F4A_7C15);
+        let mut mixed = self.0;
+        mixed = (mixed ^ (mixed >> 30)).wrapping_mul(0xBF58_476D_1CE4_E5B9);
+        mixed = (mixed ^ (mixed >> 27)).wrapping_mul(0x94D0_49BB_1331_11EB);
+        mixed ^ (mixed >> 31)
+    }
+
+    /// Below `limit`.
+    fn below(&mut self, limit: usize) -> usize {
+        (self.next() % limit as u64) as usize
+    }
+
+    fn one_in(&mut self, count: usize) -> bool {
+        self.below(count) == 0
+    }
+
+    fn one_of(&mut self, choice: &[usize]) -> usize {
+        choice[self.below(choice.len())]
+    }
+}
+
+/// An aligned place of `length` bytes in RAM, its ends favoured.
+fn place(random: &mut Random, length: usize) -> usize {
+    let last = (ram::END - length.min(ram::END - ram::START)) & !3;
+    let span = (last - ram::START) / 4 + 1;
+    match random.below(8) {
+        0 => ram::START,
+        1 => last,
+        2 => ram::START + 4 * random.below(span.min(200)),
+        _ => ram::START + 4 * random.below(span),
+    }
+}
+
+/// Line number `at`; every second one goes through all packet sizes in turn.
+pub fn line(random: &mut Random, at: usize) -> String {
+    let room = ram::END - ram::START;
+    let incoming = random.one_in(2);
+    let size = if at % 2 == 0 {
+        at / 2 % 1024 + 1
+    } else {
+        random.one_of(&[1, 2, 3, 4, 5, 7, 8, 9, 63, 64, 65, 255, 256, 511, 512, 513, 1023, 1024, 1024, 1024])
+    };
+    // Packets: few, or about a whole number of chains, or anything up to some chains.
+    let mut packets = match random.below(8) {
+        0..=2 => random.below(4),
+        3..=5 => {
+            let chains = if random.one_in(60) { random.below(40) } else { random.below(5) };
+            (255 * chains + random.below(5)).saturating_sub(2)
+        }
+        6 => random.below(1100),
+        _ if random.one_in(40) => room / size,
+        _ => random.below(300),
+    };
+    packets = packets.min(room / size);
+    let mut length = packets * size;
+    if incoming {
+        length = match random.below(4) {
+            0 => length,
+            1 => length + random.below(size + 1),
+            2 => length + 1,
+            _ => length.saturating_sub(1),
+        };
+    } else if packets == 0 && !random.one_in(10) {
+        length = size;
+    }
+    length = if incoming { length.min(room) } else { length.min(room / size * size) };
+    let mut own = place(random, size);
+    let mut address = if random.one_in(20) { own } else { place(random, length) };
+    let mut endpoint = 1 + random.below(7);
+    // Some lines that have to be refused.
+    if random.one_in(25) {
+        match random.below(8) {
+            0 => endpoint = random.one_of(&[0, 8, 9, 15]),
+            1 => own += 1 + random.below(3),
+            2 => own = random.one_of(&[0, ram::START - 4, ram::END, ram::END - size / 2 / 4 * 4]),
+            3 => address += 1 + random.below(3),
+            4 => address = random.one_of(&[0, ram::START - 4, ram::END, ram::END + 4]),
+            5 => address = ram::END - length / 2 / 4 * 4,
+            6 => length += 1,
+            _ => length = random.one_of(&[0, room, room + 1]),
+        }
+    }
+    let direction = if incoming { "in" } else { "out" };
+    let flag = random.below(2);
+    format!("{direction}\t{endpoint}\t{size}\t{own}\t{address}\t{length}\t{flag}")
+}
+
+/// A script in the making. The Rust runs each line at once, so that generations, places and the
+/// readings awaited are known.
+#[derive(Default)]
+struct Script {
+    calls: Calls,
+    lines: Vec<String>,
+    /// Where the driver's memory lies.
+    memory: (usize, usize),
+}
+
+impl Script {
+    fn push(&mut self, line: String) {
+        self.calls.call(&line);
+        self.lines.push(line);
+    }
+}
+
+/// Calls on one driver after another. Call once in a program, with RAM mapped. Without `all`,
+/// only transfers, orders, power and events.
+pub fn calls(random: &mut Random, count: usize, all: bool) -> Vec<String> {
+    let mut script = Script::default();
+    while script.lines.len() < count {
+        let some = 20 + random.below(400);
+        life(random, some, all, &mut script);
+    }
+    script.lines
+}
+
+fn flag(random: &mut Random, one_in: usize) -> usize {
+    random.one_in(one_in).into()
+}
+
+fn joined(word: &str, numbers: &[usize]) -> String {
+    numbers.iter().fold(word.to_string(), |line, number| format!("{line}\t{number}"))
+}
+
+/// A reading of this kind; sometimes one that is out of range.
+fn a_reading(random: &mut Random, word: &str, asked: &[usize], quiet: bool, size: usize) -> String {
+    let numbers = match word {
+        "link_flags" if quiet => vec![0; 7],
+        "link_flags" => {
+            let mut flags: Vec<usize> = (0..7).map(|_| flag(random, 5)).collect();
+            flags[random.below(7)] = 1;
+            // A timeout ends all, so it is rare.
+            flags[2] &= flag(random, 3);
+            flags
+        }
+        "link_status" => {
+            let state = random.one_of(&[0, 1, 2, 3, 4, 4, 4, 5, 6, 7, 7, 8, 9, 4_000_000_000]);
+            vec![state, flag(random, 2), flag(random, 3)]
+        }
+        "force_pm" => vec![random.below(2)],
+        "message_word" => {
+            let word = random.below(1 << 32);
+            // Type 0 and each subtype are favoured.
+            vec![if random.one_in(4) { word } else { word & !0x1ff | random.below(16) << 5 }]
+        }
+        "transfer_status" => {
+            let mut numbers: Vec<usize> = (0..9).map(|_| flag(random, 3)).collect();
+            let what = random.below(16);
+            numbers[0] = (what < 3).into();
+            numbers[1] = (what == 2 || what == 3 || what == 4).into();
+            numbers[2] = (what != 5 && what != 6).into();
+            numbers[3] = match random.below(20) {
+                0 => random.one_of(&[8, 9, 15, 16, 4_000_000_000]),
+                1 => 1 + random.below(7),
+                2..=6 => 0,
+                _ if asked.is_empty() => 0,
+                _ => {
+                    let slot = random.one_of(asked);
+                    numbers[4] = slot % 2;
+                    slot / 2
+                }
+            };
+            numbers
+        }
+        "setup_bytes" => (0..8).map(|_| random.below(256)).collect(),
+        "ep0_length" => vec![random.one_of(&[0, 1, 8, 18, 63, 64, 500, 511, 512, 512, 513])],
+        "ep0_sequence" => vec![random.one_of(&[0, 1, 2, 15, 30, 31, 31, 32])],
+        "chain_packets" => vec![random.one_of(&[0, 1, 1, 2, 3, 4, 16, 254, 255, 255, 256])],
+        "last_length" => {
+            vec![random.one_of(&[0, 1, size - 1, size, size, size, size, size, size + 1, 1024, 65535, 65536])]
+        }
+        _ => panic!("no such reading"),
+    };
+    joined(word, &numbers)
+}
+
+/// An interrupt to its end, with other calls and other readings between.
+fn conversation(random: &mut Random, asked: &[usize], sizes: &[usize; 16], script: &mut Script) {
+    script.push("interrupt".into());
+    let quiet = !random.one_in(3);
+    let mut size = 64;
+    while let Some(awaited) = script.calls.awaited() {
+        let line = match random.below(30) {
+            0 => {
+                let word = random.one_of(&[0, 1, 2, 3, 4, 5, 6, 7, 8, 9]);
+                a_reading(random, readings::words()[word], asked, quiet, size)
+            }
+            1 => {
+                let generation = script.calls.control().1;
+                let calls = [
+                    "interrupt".into(),
+                    "setup".into(),
+                    "wakeup".into(),
+                    "off".into(),
+                    "on\t3".into(),
+                    "on\t16".into(),
+                    "stalled\t1\t1".into(),
+                    "begin\t1\t0\t0\t0\t0".into(),
+                    "take\t1\t1".into(),
+                    "abandon\t1\t1".into(),
+                    "enable\t1\t1\t0".into(),
+                    "stall\t0\t1\t1".into(),
+                    "report\t0\t1\t1\t1".into(),
+                    format!("accept\t{generation}"),
+                    format!("reject\t{generation}"),
+                    format!("take_in\t{generation}"),
+                    "state".into(),
+                ];
+                calls[random.below(calls.len())].clone()
+            }
+            2 => "state".into(),
+            _ => a_reading(random, awaited, asked, quiet, size),
+        };
+        if let Some(endpoint) = line.strip_prefix("transfer_status").and_then(|rest| rest.split('\t').nth(4)) {
+            size = sizes.get(2 * endpoint.parse::<usize>().unwrap()).map_or(64, |size| (*size).max(1));
+        }
+        script.push(line);
+    }
+    if random.one_in(3) {
+        script.push("poll".into());
+    }
+    // A reset leaves all endpoints disabled.
+    if script.calls.powered() && !asked.iter().any(|slot| script.calls.ready(*slot)) {
+        for slot in asked {
+            if !random.one_in(4) {
+                script.push(format!("enable\t{}\t{}\t1", slot % 2, slot / 2));
+            }
+        }
+    }
+}
+
+/// An interrupt that reports EP0, or ends the status stage, with no link flag.
+fn ep0_report(random: &mut Random, incoming: bool, script: &mut Script) {
+    let status = usize::from(incoming && random.one_in(2));
+    script.push("interrupt".into());
+    while let Some(awaited) = script.calls.awaited() {
+        script.push(match awaited {
+            "transfer_status" => joined(awaited, &[0, status, 1, 0, incoming.into()]),
+            // Around what fits.
+            "ep0_length" => {
+                let room = script.calls.stage_in_hand(false).map_or(8, |stage| stage.1 .1) as usize;
+                joined(awaited, &[(room + random.below(3)).saturating_sub(1).min(512)])
+            }
+            _ => a_reading(random, awaited, &[], true, 64),
+        });
+    }
+}
+
+/// Where a caller's buffer lies: in the RAM or not, across its ends, aligned or not; never in the
+/// driver's memory.
+fn lent(random: &mut Random, length: usize, memory: (usize, usize)) -> usize {
+    let outside = ram::FIRST + random.below(400_000);
+    let address = match random.below(8) {
+        0 => outside,
+        1 => ram::END + random.below(400_000),
+        2 => ram::START - random.below(length + 1),
+        3 => ram::END - random.below(length + 1),
+        4 => place(random, length + 3) + 1 + random.below(3),
+        _ => place(random, length),
+    };
+    let apart = address + length <= memory.0 || memory.0 + memory.1 <= address;
+    if apart {
+        address
+    } else {
+        outside
+    }
+}
+
+/// A call of EP0, mostly of the generation that stands.
+fn control(random: &mut Random, script: &mut Script) {
+    let current = script.calls.control().1;
+    let generation = match random.below(12) {
+        0 => current.wrapping_sub(1),
+        1 => current.wrapping_add(1),
+        _ => current,
+    };
+    let first = random.below(2);
+    let last = random.below(2);
+    let line = match random.below(16) {
+        0 | 1 => "setup".into(),
+        2 | 3 => {
+            let length = random.one_of(&[0, 1, 8, 18, 64, 511, 512, 512, 513, 600]);
+            let address = lent(random, length, script.memory);
+            format!("data_out\t{generation}\t{address}\t{length}")
+        }
+        4..=6 => {
+            let length = random.one_of(&[0, 1, 8, 18, 64, 511, 512, 512, 513, 600]);
+            let address = lent(random, length, script.memory);
+            format!("data_in\t{generation}\t{address}\t{length}\t{first}\t{last}\t{}", random.below(256))
+        }
+        7 => format!("accept\t{generation}"),
+        8 => {
+            let address = random.one_of(&[0, 1, 5, 126, 127, 127, 128, 255]);
+            format!("accept_address\t{generation}\t{address}")
+        }
+        9 => format!("reject\t{generation}"),
+        10..=12 => {
+            if random.one_in(2) {
+                ep0_report(random, false, script);
+            }
+            let (generation, place) = script.calls.stage_in_hand(false).unwrap_or((generation, (ram::FIRST as u32, 8)));
+            format!("take_out\t{generation}\t{}\t{}\t{}", place.0, place.1, random.below(256))
+        }
+        _ => {
+            if random.one_in(2) {
+                ep0_report(random, true, script);
+            }
+            format!("take_in\t{}", script.calls.stage_in_hand(true).map_or(generation, |stage| stage.0))
+        }
+    };
+    script.push(line);
+}
+
+/// A send or receive, or its next piece.
+fn moving(random: &mut Random, incoming: usize, endpoint: usize, size: usize, script: &mut Script) {
+    let slot = 2 * endpoint + incoming;
+    let pattern = random.below(256);
+    if let Some((Some(asked), position)) = script.calls.in_hand(slot) {
+        if script.calls.powered() && !random.one_in(4) {
+            let last = if random.one_in(6) { random.below(size + 1) } else { size };
+            script.push(joined("report", &[incoming, endpoint, random.one_of(&[1, 2, 255, 255]), last]));
+        }
+        let numbers = [asked.single.into(), asked.address as usize, asked.length as usize, asked.flag.into()];
+        let place = [pattern, position as usize];
+        script.push(joined("next", &[&[incoming, endpoint], &numbers[..], &place[..]].concat()));
+        return;
+    }
+    let single = random.below(2);
+    if !script.calls.holds(slot) && single == 1 && incoming == 1 {
+        return;
+    }
+    let packets = random.one_of(&[0, 1, 1, 2, 3, 16, 17, 33]);
+    let packets = if single == 1 && !random.one_in(6) { packets.min(1) } else { packets };
+    let length = match random.below(4) {
+        0 => (packets * size).saturating_sub(1),
+        1 => packets * size + random.below(size + 1),
+        _ => packets * size,
+    };
+    let address = lent(random, length, script.memory);
+    script.push(joined("move", &[incoming, endpoint, single, address, length, random.below(2), pattern]));
+}
+
+/// A driver with endpoints, then `count` calls with orders and power among transfers on several
+/// slots; at its end it is off.
+fn life(random: &mut Random, count: usize, all: bool, script: &mut Script) {
+    // Memory at the edges, often refused; a driver that is made there isn't started.
+    for _ in 0..random.below(4) {
+        let (start, end) = (ram::START, ram::END);
+        let near = [start - 4, start - 1, start, start + 1, start + 3, end - 515, end - 512, end - 1, end, end + 4];
+        let memory = random.one_of(&near);
+        let capacity = random.one_of(&[0, 1, 511, 512, 513, 514, 515, 516, end - start, end - start + 1]);
+        script.push(format!("driver\t{memory}\t{capacity}"));
+    }
+    // Unaligned or tight memory is favoured.
+    let memory = place(random, 40_000) + random.below(4);
+    let room = random.one_of(&[4000, 38_000, 38_000]);
+    let capacity = (515 + random.below(room)).min(ram::END - memory);
+    script.memory = (memory, capacity);
+    script.push(format!("driver\t{memory}\t{capacity}"));
+    let mut sizes = [0usize; 16];
+    for _ in 0..4 + random.below(36) {
+        let incoming = random.below(2);
+        let kind = if random.one_in(10) { 0 } else { 1 + random.below(3) };
+        let size = match kind {
+            2 if !random.one_in(10) => 1024,
+            _ if random.one_in(3) => random.one_of(&[1, 2, 3, 8, 64, 1024]),
+            _ => random.below(1026),
+        };
+        let requested = random.below(2);
+        let wanted = if random.one_in(8) { 1 - incoming } else { incoming };
+        let endpoint = if random.one_in(10) { random.below(16) } else { 1 + random.below(7) };
+        let interval = if random.one_in(10) { 0 } else { 1 + random.below(255) };
+        let burst = if random.one_in(3) { random.below(18) } else { 0 };
+        let streams = usize::from(random.one_in(20));
+        let mult = usize::from(random.one_in(20));
+        script.push(format!(
+            "allocate\t{incoming}\t{requested}\t{wanted}\t{endpoint}\t{kind}\t{size}\t{interval}\t{burst}\t{streams}\t{mult}"
+        ));
+        // Where it lands if it is granted; a wrong guess only makes for more refusals.
+        let free = (1..8).find(|n| sizes[2 * n + incoming] == 0).unwrap_or(0);
+        let lands = if requested == 1 { endpoint } else { free };
+        if lands < 8 && sizes[2 * lands + incoming] == 0 {
+            sizes[2 * lands + incoming] = size.max(1);
+        }
+    }
+    script.push("start\t512".into());
+    if all {
+        // So that it wraps, and that a life doesn't hang on those before it.
+        let near = [0, u32::MAX as usize, u32::MAX as usize - 1, u32::MAX as usize - 5, 1 << 31];
+        script.push(format!("generation\t{}", random.one_of(&near)));
+    }
+    script.push("state".into());
+    let asked: Vec<usize> = (2..16).filter(|slot| sizes[*slot] != 0).collect();
+    for _ in 0..count {
+        let mut incoming = random.below(2);
+        let mut endpoint = if random.one_in(3) { random.one_of(&[0, 8, 15]) } else { 1 + random.below(7) };
+        if !asked.is_empty() && !random.one_in(20) {
+            let slot = random.one_of(&asked);
+            (incoming, endpoint) = (slot % 2, slot / 2);
+        }
+        let data = (1..8).contains(&endpoint);
+        let size = if data { sizes[2 * endpoint + incoming].max(1) } else { 64 };
+        let powered = script.calls.powered();
+        if !powered && random.one_in(3) {
+            script.push(format!("on\t{}", random.below(16)));
+            for slot in 2..16 {
+                if !random.one_in(4) {
+                    script.push(format!("enable\t{}\t{}\t1", slot % 2, slot / 2));
+                }
+            }
+            continue;
+        }
+        if all {
+            match random.below(8) {
+                0 | 1 => {
+                    conversation(random, &asked, &sizes, script);
+                    continue;
+                }
+                2 | 6 => {
+                    control(random, script);
+                    continue;
+                }
+                3..=5 if data => {
+                    moving(random, incoming, endpoint, size, script);
+                    continue;
+                }
+                7 if random.one_in(6) => {
+                    script.push("wakeup".into());
+                    continue;
+                }
+                _ => {}
+            }
+        }
+        let on = usize::from(!random.one_in(6));
+        let call = match random.below(100) {
+            0..=29 => {
+                let packets = match random.below(4) {
+                    0 => 255 * random.below(4) + random.below(3),
+                    _ => random.below(6),
+                };
+                let mut length = packets.min(100_000 / size) * size;
+                if random.one_in(if incoming == 1 { 2 } else { 20 }) {
+                    length += random.below(size + 2);
+                }
+                let mut address = place(random, length);
+                if random.one_in(40) {
+                    address += random.one_of(&[1, 2, 3, 0x10_0000]);
+                }
+                format!("begin\t{incoming}\t{endpoint}\t{address}\t{length}\t{}", random.below(2))
+            }
+            30..=64 if powered && data => {
+                let packets = match random.below(3) {
+                    0 => 255,
+                    1 => random.below(256),
+                    _ => random.below(4),
+                };
+                let last = match random.below(8) {
+                    0 => random.below(size + 1),
+                    1 => random.one_of(&[0, size.saturating_sub(1), size + 1, 65535]),
+                    _ => size,
+                };
+                format!("report\t{incoming}\t{endpoint}\t{packets}\t{last}")
+            }
+            65..=79 => format!("take\t{incoming}\t{endpoint}"),
+            80..=83 => format!("abandon\t{incoming}\t{endpoint}"),
+            84..=87 => format!("stall\t{incoming}\t{endpoint}\t{}", usize::from(random.one_in(3))),
+            88..=93 => format!("enable\t{incoming}\t{endpoint}\t{on}"),
+            94 if all && endpoint != 0 && random.one_in(2) => format!("enabled\t{incoming}\t{endpoint}"),
+            94 => format!("stalled\t{incoming}\t{endpoint}"),
+            95 if random.one_in(3) => "off".into(),
+            96 if random.one_in(3) => format!("on\t{}", random.below(if all { 18 } else { 16 })),
+            97 => "state".into(),
+            98 => {
+                for _ in 0..random.below(4) {
+                    script.push(format!("raise\t{}", random.one_of(&[1, 2, 4, 8])));
+                }
+                "poll".into()
+            }
+            99 if powered && random.one_in(3) => "reset".into(),
+            _ => format!("take\t{incoming}\t{endpoint}"),
+        };
+        // What goes on by pieces isn't taken.
+        let by_pieces = |slot: usize| script.calls.in_hand(slot).is_some_and(|hand| hand.0.is_some());
+        if data && call.starts_with("take") && by_pieces(2 * endpoint + incoming) {
+            moving(random, incoming, endpoint, size, script);
+            continue;
+        }
+        script.push(call);
+    }
+    script.push("off".into());
+    script.push("state".into());
+}
