@@ -1,21 +1,26 @@
-//! Copies the Rust to the build's own folder under the names a compiler looks for. The text is
-//! copied byte by byte; behind it stands a line that names a module of ours (src/probe), which
-//! sees what is private there.
+//! Lays the Rust out in the build's own folder under the names a compiler looks for, no byte of it
+//! changed. Where src/probe has to see private items, a file of ours includes the original and
+//! names the probe behind it. The others are copied: `mod` looks for its modules beside itself,
+//! and `include!` refuses a text that begins with `//!`.
 use std::path::{Path, PathBuf};
 use std::{env, fs};
 
 const VARIABLE: &str = "USBSS_SOURCE";
 
-fn original(folder: &Path, name: &str) -> Vec<u8> {
+/// Where a file of the Rust lies; the build ends if it can't be read.
+fn original(folder: &Path, name: &str) -> PathBuf {
     for ending in ["rs.txt", "rs"] {
         let path = folder.join(format!("{name}.{ending}"));
-        if let Ok(text) = fs::read(&path) {
+        if fs::File::open(&path).is_ok_and(|file| file.metadata().is_ok_and(|told| told.is_file())) {
             println!("cargo:rerun-if-changed={}", path.display());
-            return text;
+            return path;
         }
     }
     eprintln!("missing: {}/{name}.rs.txt (or .rs).", folder.display());
-    eprintln!("{VARIABLE} names the folder that has ch32-hal's `src` in it.");
+    match env::var_os(VARIABLE) {
+        Some(_) => eprintln!("{VARIABLE} has to name the folder that has ch32-hal's `src` in it."),
+        None => eprintln!("{VARIABLE} isn't set; it may name another folder that has ch32-hal's `src` in it."),
+    }
     std::process::exit(1)
 }
 
@@ -24,9 +29,11 @@ fn main() {
     let out = PathBuf::from(env::var("OUT_DIR").unwrap());
     println!("cargo:rerun-if-env-changed={VARIABLE}");
     println!("cargo:rerun-if-changed=build.rs");
-    let folder = match env::var(VARIABLE) {
-        Ok(named) => PathBuf::from(named),
-        Err(_) => own.join("../../../shared/docs/src"),
+    let folder = match env::var_os(VARIABLE) {
+        // A relative one counts from the folder `oracle`, where cargo is called.
+        Some(named) => own.join("..").join(named),
+        // Beside the repository.
+        None => own.ancestors().nth(3).unwrap_or(&own).join("shared/docs/src"),
     }
     .join("src");
 
@@ -41,11 +48,13 @@ fn main() {
         ("internal/drop", false),
         ("internal/delay", false),
     ] {
-        let mut text = original(&folder, name);
-        if probed {
+        let path = original(&folder, name);
+        let text = if probed {
             let probe = own.join("src/probe").join(Path::new(name).file_name().unwrap()).with_extension("rs");
-            text.extend(format!("\n#[path = {probe:?}]\npub mod probe;\n").bytes());
-        }
+            format!("include!({path:?});\n#[path = {probe:?}]\npub mod probe;\n").into_bytes()
+        } else {
+            fs::read(path).unwrap()
+        };
         fs::write(out.join(format!("{name}.rs")), text).unwrap();
     }
     // The host role isn't part of the port. What stands in its place sees the private items of mod.rs.
