@@ -9,12 +9,13 @@ use embassy_usb_driver::{
 };
 use record::{Entry, Reading};
 
-use crate::device::{address, at_once, converse, interrupt, poll, reading, transfer_readings};
+use crate::device::{address, at_once, converse, interrupt, poll, reading, transfer_readings, EP0_SIZE};
 use crate::line::in_ram;
 use crate::parts::Irqs;
 use crate::peripherals::USBSS;
 use crate::usbss::host::probe;
 use crate::usbss::{Bus, ControlPipe, Driver, Endpoint, Error};
+use crate::words::{self, Numbers};
 use crate::{ram, readings, Peri};
 
 type Moving = Pin<Box<dyn Future<Output = Result<usize, EndpointError>>>>;
@@ -152,15 +153,11 @@ impl Calls {
         self.stages[usize::from(incoming)].as_ref().map(|stage| (stage.generation, stage.lent))
     }
 
-    /// The lines to print for a line of the script.
-    pub fn call(&mut self, line: &str) -> Vec<String> {
-        assert!(line.len() < 4096, "out of turn: a long line");
-        let mut parts = line.split('\t');
-        let word = parts.next().unwrap();
-        let mut n = [0u32; 12];
-        for (number, text) in n.iter_mut().zip(parts) {
-            *number = text.parse().expect("a number");
-        }
+    /// The lines to print for a line of the script, its line feed left out.
+    pub fn call(&mut self, line: &[u8]) -> Vec<String> {
+        let Some((word, n)) = words::read(line) else {
+            return vec!["unfit".into()];
+        };
         if word == "state" {
             let mut lines = probe::device::lines();
             lines.insert(3, format!("awaits\t{}", self.awaited().unwrap_or("nothing")));
@@ -170,8 +167,8 @@ impl Calls {
         let (off, on, alone) =
             (["driver", "generation"], ["report", "reset"], ["raise", "poll", "driver", "reset", "start"]);
         let powered = probe::device::powered();
-        assert!(!(powered && off.contains(&word) || !powered && on.contains(&word)), "out of turn: {line}");
-        assert!(self.conversation.is_none() || !alone.contains(&word), "out of turn: {line}");
+        assert!(!(powered && off.contains(&word) || !powered && on.contains(&word)), "out of turn: {word}");
+        assert!(self.conversation.is_none() || !alone.contains(&word), "out of turn: {word}");
         if self.awaited().is_some_and(|awaited| awaited != word)
             || self.conversation.is_none() && readings::words().contains(&word)
         {
@@ -219,10 +216,12 @@ impl Calls {
         lines
     }
 
-    fn answer(&mut self, word: &str, n: &[u32; 12]) -> Answer {
+    fn answer(&mut self, word: &str, n: &Numbers) -> Answer {
         let slot = (2 * n[1].min(7) + n[0].min(1)) as usize;
         let data = (1..=7).contains(&n[1]);
         let part = (n[1] as usize, n[0] != 0);
+        // An address has seven bits for its endpoint; all above 7 are the same to the Rust.
+        let address = || address(part.0.min(127), part.1);
         match word {
             "driver" => self.make(n[0], n[1]),
             "allocate" => self.allocate(n),
@@ -239,15 +238,15 @@ impl Calls {
                 done(0)
             }
             "enable" => {
-                self.bus().endpoint_set_enabled(address(part.0, part.1), n[2] != 0);
+                self.bus().endpoint_set_enabled(address(), n[2] != 0);
                 done(0)
             }
             "stall" => {
-                self.bus().endpoint_set_stalled(address(part.0, part.1), n[2] != 0);
+                self.bus().endpoint_set_stalled(address(), n[2] != 0);
                 done(0)
             }
             "stalled" => {
-                let stalled = self.bus().endpoint_is_stalled(address(part.0, part.1));
+                let stalled = self.bus().endpoint_is_stalled(address());
                 done(stalled.into())
             }
             "enabled" => {
@@ -311,12 +310,12 @@ impl Calls {
                 at_once(probe::control::pipe(n[0]).reject());
                 done(0)
             }
-            _ => panic!("no such call: {word}"),
+            _ => unreachable!("a word of the table that is no call: {word}"),
         }
     }
 
     /// A reading of the kind that is awaited.
-    fn go_on(&mut self, word: &str, n: &[u32; 12]) -> Vec<String> {
+    fn go_on(&mut self, word: &str, n: &Numbers) -> Vec<String> {
         let conversation = self.conversation.as_mut().unwrap();
         let Some(reading) = readings::read(word, conversation.asks.1, n) else {
             return vec!["answer\t11\t0\t0\t0".into()];
@@ -349,16 +348,18 @@ impl Calls {
     }
 
     fn make(&mut self, address: u32, length: u32) -> Answer {
-        // A second driver takes the peripheral of the first, which must be off.
-        self.running = Default::default();
-        self.stages = Default::default();
-        self.pipes = Default::default();
-        self.bus = None;
-        probe::device::take_wakes();
-        // Creation looks at the place alone, so that one outside RAM may be given too.
-        let memory = unsafe { std::slice::from_raw_parts_mut(address as usize as *mut u8, length as usize) };
+        // Creation looks at the place alone, so that one outside RAM may be given too, but for 0,
+        // where no slice can be.
+        let first = address.max(1) as usize as *mut u8;
+        let memory = unsafe { std::slice::from_raw_parts_mut(first, length as usize) };
         match Driver::new(Peri::new(USBSS), Irqs, memory) {
             Ok(driver) => {
+                // It takes the peripheral of the one before, which is off.
+                self.running = Default::default();
+                self.stages = Default::default();
+                self.pipes = Default::default();
+                self.bus = None;
+                probe::device::take_wakes();
                 self.driver = Some(driver);
                 done(0)
             }
@@ -368,7 +369,7 @@ impl Calls {
     }
 
     /// The Rust has one error where the port has five numbers.
-    fn allocate(&mut self, n: &[u32; 12]) -> Answer {
+    fn allocate(&mut self, n: &Numbers) -> Answer {
         let config = EndpointConfig {
             addr: (n[1] != 0).then(|| address(n[3] as usize, n[2] != 0)),
             ep_type: kind(n[4]),
@@ -396,7 +397,12 @@ impl Calls {
     }
 
     fn start(&mut self, size: u32) -> Answer {
-        let (bus, _control) = self.driver.take().expect("out of turn: no driver").start(size as u16);
+        assert!(self.driver.is_some(), "out of turn: no driver");
+        // The Rust panics, and the driver is gone.
+        if size as usize != EP0_SIZE {
+            return refused("6");
+        }
+        let (bus, _control) = self.driver.take().unwrap().start(size as u16);
         self.bus = Some(bus);
         done(0)
     }
@@ -456,7 +462,7 @@ impl Calls {
         answer
     }
 
-    fn asked(slot: usize, n: &[u32; 12]) -> Asked {
+    fn asked(slot: usize, n: &Numbers) -> Asked {
         Asked { single: n[2] != 0, address: n[3], length: n[4], flag: slot % 2 == 1 && n[5] != 0 }
     }
 
@@ -550,7 +556,7 @@ impl Calls {
         Answer { number: "0", value: 1, told: vec![line] }
     }
 
-    fn begin_stage(&mut self, word: &str, n: &[u32; 12]) -> Answer {
+    fn begin_stage(&mut self, word: &str, n: &Numbers) -> Answer {
         let generation = n[0];
         let old = !probe::device::powered() || probe::device::control().1 != generation;
         let pipe: &'static mut ControlPipe<'static, USBSS> = Box::leak(Box::new(probe::control::pipe(generation)));

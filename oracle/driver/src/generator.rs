@@ -110,7 +110,7 @@ struct Script {
 
 impl Script {
     fn push(&mut self, line: String) {
-        self.calls.call(&line);
+        self.calls.call(line.as_bytes());
         self.lines.push(line);
     }
 }

@@ -22,6 +22,7 @@ pub mod pac;
 pub mod parts;
 pub mod ram;
 pub mod readings;
+pub mod words;
 
 pub use parts::{_generated, interrupt, peripherals, rcc, signature, Peri, PeripheralType, RccPeripheral};
 

@@ -3,7 +3,7 @@ use crate::device::Transfer;
 use crate::ram;
 
 /// Numbers of any length; those of 2^32 and more can't be read.
-fn number(text: &[u8]) -> Option<u32> {
+pub fn number(text: &[u8]) -> Option<u32> {
     if text.is_empty() || !text.iter().all(u8::is_ascii_digit) {
         return None;
     }
