@@ -1,5 +1,6 @@
 //! Random lines of the listing's input, and random scripts, from a seed, with the edges favoured.
 use crate::calls::Calls;
+use crate::words::{self, WORDS};
 use crate::{ram, readings};
 
 pub struct Random(u64);
@@ -98,32 +99,174 @@ pub fn line(random: &mut Random, at: usize) -> String {
     format!("{direction}\t{endpoint}\t{size}\t{own}\t{address}\t{length}\t{flag}")
 }
 
+/// The words of a script that has only transfers, orders, power and events.
+const FEWER: [&str; 17] = [
+    "driver", "allocate", "start", "on", "off", "enable", "stall", "stalled", "enabled", "raise", "poll", "reset",
+    "begin", "take", "abandon", "report", "state",
+];
+
+/// A line that can't be read, where it has numbers for one reason alone.
+fn unfit(random: &mut Random, all: bool) -> Vec<u8> {
+    let (word, largest) = loop {
+        let found = WORDS[random.below(WORDS.len())];
+        if all || FEWER.contains(&found.0) {
+            break found;
+        }
+    };
+    let some = |random: &mut Random| random.one_of(&[0, 0, 1, 1, 2, 3, 7, 64, 512, ram::START, u32::MAX as usize]);
+    let numbers: Vec<usize> = largest.iter().map(|most| some(random).min(*most as usize)).collect();
+    let fit = joined(word, &numbers);
+    let unread = |random: &mut Random, texts: &[&[u8]]| {
+        let mut parts: Vec<&[u8]> = fit.as_bytes().split(|byte| *byte == b'\t').collect();
+        let text = texts[random.below(texts.len())];
+        match parts.len() {
+            1 => parts.push(text),
+            some => parts[1 + random.below(some - 1)] = text,
+        }
+        parts.join(&b'\t')
+    };
+    let line: Vec<u8> = match random.below(14) {
+        0 => Vec::new(),
+        1 => {
+            let words = ["", "Begin", "begins", "tak", "takes", "0", "unfit", "answer", "device", " state", "state "];
+            joined(words[random.below(words.len())], &numbers).into()
+        }
+        2 => [fit.as_bytes(), b"\r"].concat(),
+        3 => unread(random, &[b"+1", b"-1", b"0x10", b"1.0", b" 1", b"1 ", b"1_0", b"1e3", b"one", b"1\x00", b"\x00"]),
+        4 => unread(random, &[b"4294967296", b"4294967808", b"004294967296", b"18446744073709551617"]),
+        5 => unread(random, &[&[b'9'; 300], &[b'1'; 21], b"99999999999"]),
+        6 => joined(&fit, &vec![some(random); 1 + random.below(12)]).into(),
+        7 => [fit.as_bytes(), b"\t"].concat(),
+        8 => unread(random, &[b""]),
+        9 => {
+            // Too long by its zeros alone, or by what nobody reads.
+            let long = 4096 + random.one_of(&[0, 0, 1, 700]);
+            match fit.split_once('\t') {
+                Some((word, rest)) => format!("{word}\t{}{rest}", "0".repeat(long - fit.len())).into(),
+                None => vec![b'x'; long],
+            }
+        }
+        10 => unread(random, &[b"\xff", b"1\x80", b"\xc2\xb2", b"\xe2\x82\x81"]),
+        11 => [&b"\xc3\xa9"[..], fit.as_bytes()].concat(),
+        12 => {
+            let most = [1, 1, 1, 15, 3, 65535, 255, 255, 65535, 255];
+            let mut numbers = most.map(|most| random.below(most + 1));
+            let at = 3 + random.below(7);
+            numbers[at] = random.one_of(&[most[at] + 1, most[at] + 2, 65536, 65537, u32::MAX as usize]);
+            joined("allocate", &numbers).into()
+        }
+        _ => joined("start", &[random.one_of(&[65536, 65536 + 512, 1 << 31, u32::MAX as usize])]).into(),
+    };
+    assert!(words::read(&line).is_none(), "it can be read: {}", line.escape_ascii());
+    line
+}
+
+/// Another line for the same call; rarely one that leaves out numbers that aren't 0, where that is
+/// a call too.
+fn otherwise(random: &mut Random, line: String) -> String {
+    let mut parts: Vec<String> = line.split('\t').map(str::to_string).collect();
+    let least = match &parts[0][..] {
+        "allocate" | "on" | "enable" | "stall" | "stalled" | "raise" | "begin" | "take" | "abandon" => 1,
+        "report" => 3,
+        _ => usize::MAX,
+    };
+    if parts.len() > least && random.one_in(150) {
+        parts.truncate(least + random.below(parts.len() - least));
+    }
+    if random.one_in(20) {
+        while parts.len() > 1 && parts[parts.len() - 1] == "0" {
+            parts.pop();
+        }
+    }
+    // Any number but 0 is a set flag.
+    if parts.len() > 1 && least < 4 && !["on", "raise"].contains(&&parts[0][..]) && parts[1] == "1" && random.one_in(50)
+    {
+        parts[1] = random.one_of(&[2, 3, 255, 256, 65536, 1 << 31, u32::MAX as usize]).to_string();
+    }
+    if parts.len() > 1 && random.one_in(50) {
+        // Now and then as long as a line may be.
+        let room = 4095 - parts.join("\t").len();
+        let zeros = if random.one_in(30) { room } else { 1 + random.below(12) };
+        let at = 1 + random.below(parts.len() - 1);
+        parts[at].insert_str(0, &"0".repeat(zeros));
+    }
+    parts.join("\t")
+}
+
 /// A script in the making. The Rust runs each line at once, so that generations, places and the
 /// readings awaited are known.
-#[derive(Default)]
 struct Script {
     calls: Calls,
-    lines: Vec<String>,
+    lines: Vec<Vec<u8>>,
     /// Where the driver's memory lies.
     memory: (usize, usize),
+    all: bool,
+    /// For lines that can't be read, and for the writing of those that can.
+    slips: Random,
 }
 
 impl Script {
     fn push(&mut self, line: String) {
-        self.calls.call(line.as_bytes());
+        if self.slips.one_in(200) {
+            let unfit = unfit(&mut self.slips, self.all);
+            self.run(unfit);
+        }
+        let line = otherwise(&mut self.slips, line);
+        self.run(line.into());
+    }
+
+    fn run(&mut self, line: Vec<u8>) {
+        self.calls.call(&line);
         self.lines.push(line);
     }
 }
 
 /// Calls on one driver after another. Call once in a program, with RAM mapped. Without `all`,
 /// only transfers, orders, power and events.
-pub fn calls(random: &mut Random, count: usize, all: bool) -> Vec<String> {
-    let mut script = Script::default();
+pub fn calls(random: &mut Random, count: usize, all: bool) -> Vec<Vec<u8>> {
+    let slips = Random::new(random.next());
+    let mut script = Script { calls: Calls::default(), lines: Vec::new(), memory: (0, 0), all, slips };
     while script.lines.len() < count {
         let some = 20 + random.below(400);
-        life(random, some, all, &mut script);
+        life(random, some, &mut script);
     }
     script.lines
+}
+
+/// Calls while nothing is started: all is refused, or nothing to be done.
+fn unstarted(random: &mut Random, script: &mut Script) {
+    for _ in 0..random.below(4) {
+        let (incoming, endpoint) = (random.below(2), 1 + random.below(8));
+        script.push(match random.below(8) {
+            // Later the Rust has no bus to ask.
+            0 | 1 if script.calls.control().0 == 0 => joined("on", &[random.below(18)]),
+            2 => joined("begin", &[incoming, endpoint, place(random, 64), 64, 0]),
+            3 => joined("abandon", &[incoming, endpoint]),
+            4 => joined("enabled", &[incoming, endpoint]),
+            5 => joined("raise", &[an_event(random)]),
+            6 => "state".into(),
+            _ => joined("take", &[incoming, endpoint]),
+        });
+    }
+}
+
+/// Mostly one of the four.
+fn an_event(random: &mut Random) -> usize {
+    if random.one_in(12) {
+        random.one_of(&[0, 3, 5, 10, 16, 255, 257, 1 << 31, u32::MAX as usize])
+    } else {
+        random.one_of(&[1, 2, 4, 8])
+    }
+}
+
+/// A driver that has to be refused.
+fn refused_driver(random: &mut Random) -> String {
+    let (start, end, most) = (ram::START, ram::END, u32::MAX as usize);
+    let places = [(0, 0), (0, most), (start - 4, 516), (start - 1, 600), (end, 512), (end - 508, 512), (most, most)];
+    let short = [(start, 511), (start, 0), (start + 1, 514), (start + 3, 512), (end - 1, 1), (end - 511, 511)];
+    let (memory, capacity) =
+        if random.one_in(2) { places[random.below(places.len())] } else { short[random.below(short.len())] };
+    joined("driver", &[memory, capacity])
 }
 
 fn flag(random: &mut Random, one_in: usize) -> usize {
@@ -354,7 +497,11 @@ fn moving(random: &mut Random, incoming: usize, endpoint: usize, size: usize, sc
 
 /// A driver with endpoints, then `count` calls with orders and power among transfers on several
 /// slots; at its end it is off.
-fn life(random: &mut Random, count: usize, all: bool, script: &mut Script) {
+fn life(random: &mut Random, count: usize, script: &mut Script) {
+    let all = script.all;
+    if script.lines.is_empty() {
+        unstarted(random, script);
+    }
     // Memory at the edges, often refused; a driver that is made there isn't started.
     for _ in 0..random.below(4) {
         let (start, end) = (ram::START, ram::END);
@@ -388,12 +535,21 @@ fn life(random: &mut Random, count: usize, all: bool, script: &mut Script) {
         script.push(format!(
             "allocate\t{incoming}\t{requested}\t{wanted}\t{endpoint}\t{kind}\t{size}\t{interval}\t{burst}\t{streams}\t{mult}"
         ));
+        if random.one_in(60) {
+            script.push(refused_driver(random));
+        }
         // Where it lands if it is granted; a wrong guess only makes for more refusals.
         let free = (1..8).find(|n| sizes[2 * n + incoming] == 0).unwrap_or(0);
         let lands = if requested == 1 { endpoint } else { free };
         if lands < 8 && sizes[2 * lands + incoming] == 0 {
             sizes[2 * lands + incoming] = size.max(1);
         }
+    }
+    if random.one_in(3) {
+        unstarted(random, script);
+    }
+    if random.one_in(3) {
+        script.push(format!("start\t{}", random.one_of(&[0, 8, 64, 511, 513, 1024, 65535])));
     }
     script.push("start\t512".into());
     if all {
@@ -405,10 +561,15 @@ fn life(random: &mut Random, count: usize, all: bool, script: &mut Script) {
     let asked: Vec<usize> = (2..16).filter(|slot| sizes[*slot] != 0).collect();
     for _ in 0..count {
         let mut incoming = random.below(2);
-        let mut endpoint = if random.one_in(3) { random.one_of(&[0, 8, 15]) } else { 1 + random.below(7) };
-        if !asked.is_empty() && !random.one_in(20) {
-            let slot = random.one_of(&asked);
-            (incoming, endpoint) = (slot % 2, slot / 2);
+        let mut endpoint = 1 + random.below(7);
+        match random.below(30) {
+            0 => endpoint = random.one_of(&[0, 0, 8, 8, 9, 15, 127, 128, 129, 200, 256, 258, u32::MAX as usize]),
+            1 => {}
+            _ if asked.is_empty() => {}
+            _ => {
+                let slot = random.one_of(&asked);
+                (incoming, endpoint) = (slot % 2, slot / 2);
+            }
         }
         let data = (1..8).contains(&endpoint);
         let size = if data { sizes[2 * endpoint + incoming].max(1) } else { 64 };
@@ -421,6 +582,9 @@ fn life(random: &mut Random, count: usize, all: bool, script: &mut Script) {
                 }
             }
             continue;
+        }
+        if !powered && random.one_in(40) {
+            script.push(refused_driver(random));
         }
         if all {
             match random.below(8) {
@@ -450,13 +614,21 @@ fn life(random: &mut Random, count: usize, all: bool, script: &mut Script) {
                     0 => 255 * random.below(4) + random.below(3),
                     _ => random.below(6),
                 };
-                let mut length = packets.min(100_000 / size) * size;
+                let mut length = packets.min((ram::END - ram::START) / size) * size;
                 if random.one_in(if incoming == 1 { 2 } else { 20 }) {
                     length += random.below(size + 2);
                 }
                 let mut address = place(random, length);
-                if random.one_in(40) {
-                    address += random.one_of(&[1, 2, 3, 0x10_0000]);
+                // What no transfer can have.
+                if random.one_in(15) {
+                    match random.below(6) {
+                        0 => address += 1 + random.below(3),
+                        1 => address += 0x10_0000,
+                        2 => address = random.one_of(&[0, ram::START - 4, ram::END, u32::MAX as usize - 3]),
+                        3 => address = (ram::END - length / 2) & !3,
+                        4 => length = random.one_of(&[0, 0xe_0004, u32::MAX as usize]),
+                        _ => length += 1,
+                    }
                 }
                 format!("begin\t{incoming}\t{endpoint}\t{address}\t{length}\t{}", random.below(2))
             }
@@ -477,14 +649,14 @@ fn life(random: &mut Random, count: usize, all: bool, script: &mut Script) {
             80..=83 => format!("abandon\t{incoming}\t{endpoint}"),
             84..=87 => format!("stall\t{incoming}\t{endpoint}\t{}", usize::from(random.one_in(3))),
             88..=93 => format!("enable\t{incoming}\t{endpoint}\t{on}"),
-            94 if all && endpoint != 0 && random.one_in(2) => format!("enabled\t{incoming}\t{endpoint}"),
+            94 if endpoint != 0 && random.one_in(2) => format!("enabled\t{incoming}\t{endpoint}"),
             94 => format!("stalled\t{incoming}\t{endpoint}"),
             95 if random.one_in(3) => "off".into(),
-            96 if random.one_in(3) => format!("on\t{}", random.below(if all { 18 } else { 16 })),
+            96 if random.one_in(3) => format!("on\t{}", random.below(18)),
             97 => "state".into(),
             98 => {
                 for _ in 0..random.below(4) {
-                    script.push(format!("raise\t{}", random.one_of(&[1, 2, 4, 8])));
+                    script.push(format!("raise\t{}", an_event(random)));
                 }
                 "poll".into()
             }

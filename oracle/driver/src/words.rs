@@ -4,7 +4,7 @@ use crate::line::number;
 const ANY: u32 = u32::MAX;
 
 /// Each word with its numbers: for each the largest that can be read.
-const WORDS: [(&str, &[u32]); 40] = [
+pub const WORDS: [(&str, &[u32]); 40] = [
     ("driver", &[ANY; 2]),
     ("allocate", &[ANY, ANY, ANY, 15, 3, 65535, 255, 255, 65535, 255]),
     ("start", &[65535]),

@@ -14,7 +14,8 @@ fn main() -> io::Result<()> {
     ram::map();
     let mut output = io::BufWriter::new(io::stdout().lock());
     for line in calls(&mut Random::new(seed), count as usize, all) {
-        writeln!(output, "{line}")?;
+        output.write_all(&line)?;
+        output.write_all(b"\n")?;
     }
     output.flush()
 }

@@ -2,13 +2,16 @@
 //! Arguments: the port's program, a first seed, how many seeds, calls to a script, and 0 to leave
 //! out the kinds that calls_lines leaves out.
 //! A script on which they differ is cut down to the lines that it takes.
-use std::io::Write;
+use std::io::{self, Write};
 use std::path::{Path, PathBuf};
 use std::process::{Command, ExitCode, Stdio};
 use std::thread;
 
+/// A line of a script; not all are text.
+type Line = Vec<u8>;
+
 /// What a program prints, and whether it ended well. Each run is a process, so that it starts fresh.
-fn run(program: &Path, script: &[String]) -> (bool, String) {
+fn run(program: &Path, script: &[Line]) -> (bool, String) {
     let mut child = Command::new(program)
         .env("RUST_BACKTRACE", "0")
         .stdin(Stdio::piped())
@@ -17,8 +20,8 @@ fn run(program: &Path, script: &[String]) -> (bool, String) {
         .spawn()
         .unwrap_or_else(|error| panic!("{}: {error}", program.display()));
     let mut stdin = child.stdin.take().unwrap();
-    let input: String = script.iter().map(|line| format!("{line}\n")).collect();
-    let writer = thread::spawn(move || stdin.write_all(input.as_bytes()));
+    let input: Vec<u8> = script.iter().flat_map(|line| [&line[..], b"\n"].concat()).collect();
+    let writer = thread::spawn(move || stdin.write_all(&input));
     let output = child.wait_with_output().expect("its output can't be read");
     let _ = writer.join();
     (output.status.success(), String::from_utf8_lossy(&output.stdout).into_owned())
@@ -31,13 +34,13 @@ struct Pair {
 
 impl Pair {
     /// A script that the Rust can't run to its end (calls out of turn) is no difference.
-    fn differs(&self, script: &[String]) -> bool {
+    fn differs(&self, script: &[Line]) -> bool {
         let (ended, rust) = run(&self.rust, script);
         ended && run(&self.port, script).1 != rust
     }
 
     /// Leaves lines out, many at first, while the difference stays.
-    fn smallest(&self, script: Vec<String>) -> Vec<String> {
+    fn smallest(&self, script: Vec<Line>) -> Vec<Line> {
         let mut script = script;
         // What stands behind the first difference goes at once.
         let (mut equal, mut differing) = (0, script.len());
@@ -51,7 +54,7 @@ impl Pair {
         }
         script.truncate(differing);
         // A life before the last one rarely matters.
-        if let Some(at) = script.iter().rposition(|line| line.starts_with("driver")) {
+        if let Some(at) = script.iter().rposition(|line| line.starts_with(b"driver\t")) {
             if self.differs(&script[at..]) {
                 script.drain(..at);
             }
@@ -94,7 +97,8 @@ fn main() -> ExitCode {
         let made = Command::new(&lines_program).arg(seed.to_string()).arg(count).args(fewer).output();
         let made = made.expect("calls_lines can't be run");
         assert!(made.status.success(), "calls_lines failed on seed {seed}");
-        let script: Vec<String> = String::from_utf8_lossy(&made.stdout).lines().map(str::to_string).collect();
+        let lines_of = made.stdout.split_inclusive(|byte| *byte == b'\n');
+        let script: Vec<Line> = lines_of.map(|line| line.strip_suffix(b"\n").unwrap_or(line).to_vec()).collect();
         lines += script.len();
         let (ended, rust) = run(&pair.rust, &script);
         if !ended {
@@ -107,7 +111,8 @@ fn main() -> ExitCode {
         println!("seed {seed} differs; the smallest script found:");
         let script = pair.smallest(script);
         for line in &script {
-            println!("  {line}");
+            // As it is, so that it can be run again.
+            io::stdout().write_all(&[b"  ", &line[..], b"\n"].concat()).unwrap();
         }
         let (rust, port) = (run(&pair.rust, &script).1, run(&pair.port, &script).1);
         let (rust, port): (Vec<&str>, Vec<&str>) = (rust.lines().collect(), port.lines().collect());
