@@ -1,7 +1,7 @@
 //! Lays the Rust out in the build's own folder under the names a compiler looks for, no byte of it
 //! changed. Where src/probe has to see private items, a file of ours includes the original and
 //! names the probe behind it. The others are copied: `mod` looks for its modules beside itself,
-//! and `include!` refuses a text that begins with `//!`.
+//! and `include!` refuses a text that begins with an inner comment or attribute, as they do.
 use std::path::{Path, PathBuf};
 use std::{env, fs};
 
