@@ -398,7 +398,7 @@ impl Calls {
 
     fn start(&mut self, size: u32) -> Answer {
         assert!(self.driver.is_some(), "out of turn: no driver");
-        // The Rust panics, and the driver is gone.
+        // The Rust would panic, and the driver be gone.
         if size as usize != EP0_SIZE {
             return refused("6");
         }
