@@ -32,10 +32,10 @@ struct Number {
 }
 
 // A number, and where the field behind its own begins.
-struct NumberAt {
-    fits: bool,
-    value: u32,
-    next: usize,
+pub struct NumberAt {
+    pub fits: bool,
+    pub value: u32,
+    pub next: usize,
 }
 
 // The position of the first line feed from `from` on, or the end of the bytes where there is none. A position past the
@@ -47,7 +47,7 @@ pub fn line_end(bytes: &[u8], from: usize) -> usize
 }
 
 // The same for any byte.
-fn first(bytes: &[u8], from: usize, byte: u8) -> usize
+pub fn first(bytes: &[u8], from: usize, byte: u8) -> usize
     ensures { λ r. ⌜ r ≡ seek (now (bytes .entry)) from byte ⌝ }
 {
     if bytes.len() < from {
@@ -89,7 +89,7 @@ fn read_number(field: &[u8]) -> Number
 }
 
 // The field that begins at `from`, as a number; behind the line's end there is none.
-fn number_at(line: &[u8], from: usize) -> NumberAt
+pub fn number_at(line: &[u8], from: usize) -> NumberAt
     ensures { λ r. ⌜ ReadAt (now (line .entry)) from r ⌝ }
 {
     if line.len() < from {

@@ -2,10 +2,45 @@
 //
 // The fields of a line are direction, endpoint, M, own buffer, address, length and flag.
 mod answers;
-mod input;
 mod run;
+
+use input::Found;
 
 fn main() {
     print::header();
-    input::lines();
+    every_line();
+}
+
+// The turns are counted down, so that the loop ends whatever the input does.
+fn every_line() {
+    let mut buffer = [0u8; 4096];
+    let mut reader = input::at_start();
+    let mut turns = u64::MAX;
+    while 0 < turns {
+        let next = input::next_line(&mut buffer, reader);
+        let found = next.found;
+        let start = next.start;
+        let stop = next.stop;
+        let ended = one_line(found, &buffer[start..stop]);
+        if ended {
+            return;
+        }
+        reader = next.reader;
+        turns = turns - 1;
+    }
+}
+
+// Whether the input ended. A line that is too long can't be read.
+fn one_line(found: Found, line: &[u8]) -> bool {
+    match found {
+        Found::Ended => true,
+        Found::TooLong => {
+            answers::refused(0);
+            false
+        }
+        Found::Line => {
+            run::line(line);
+            false
+        }
+    }
 }

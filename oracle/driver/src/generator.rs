@@ -132,7 +132,10 @@ fn unfit(random: &mut Random, all: bool) -> Vec<u8> {
             joined(words[random.below(words.len())], &numbers).into()
         }
         2 => [fit.as_bytes(), b"\r"].concat(),
-        3 => unread(random, &[b"+1", b"-1", b"0x10", b"1.0", b" 1", b"1 ", b"1_0", b"1e3", b"one", b"1\x00", b"\x00"]),
+        3 => unread(
+            random,
+            &[b"+1", b"-1", b"0x10", b"1.0", b" 1", b"1 ", b"1_0", b"1e3", b"one", b"1:", b"/", b"1\x00"],
+        ),
         4 => unread(random, &[b"4294967296", b"4294967808", b"004294967296", b"18446744073709551617"]),
         5 => unread(random, &[&[b'9'; 300], &[b'1'; 21], b"99999999999"]),
         6 => joined(&fit, &vec![some(random); 1 + random.below(12)]).into(),
@@ -495,6 +498,17 @@ fn moving(random: &mut Random, incoming: usize, endpoint: usize, size: usize, sc
     script.push(joined("move", &[incoming, endpoint, single, address, length, random.below(2), pattern]));
 }
 
+/// A driver whose memory ends about where its last buffer does; it isn't started.
+fn tight(random: &mut Random, script: &mut Script) {
+    let buffers: Vec<_> = (0..1 + random.below(4)).map(|_| (1 + random.below(1024), random.below(4))).collect();
+    let used = buffers.iter().fold(512, |used: usize, (size, burst)| used.next_multiple_of(4) + size * (burst + 1));
+    let memory = place(random, 20_000);
+    script.push(joined("driver", &[memory, used + random.below(3) - 1]));
+    for (size, burst) in buffers {
+        script.push(joined("allocate", &[random.below(2), 0, 0, 0, 3, size, 1, burst]));
+    }
+}
+
 /// A driver with endpoints, then `count` calls with orders and power among transfers on several
 /// slots; at its end it is off.
 fn life(random: &mut Random, count: usize, script: &mut Script) {
@@ -509,6 +523,9 @@ fn life(random: &mut Random, count: usize, script: &mut Script) {
         let memory = random.one_of(&near);
         let capacity = random.one_of(&[0, 1, 511, 512, 513, 514, 515, 516, end - start, end - start + 1]);
         script.push(format!("driver\t{memory}\t{capacity}"));
+    }
+    if random.one_in(2) {
+        tight(random, script);
     }
     // Unaligned or tight memory is favoured.
     let memory = place(random, 40_000) + random.below(4);

@@ -2,6 +2,7 @@
 use record::{Reading, SETUP_BYTES};
 
 use crate::device::reading;
+use crate::words::WORDS;
 
 /// A kind of reading: its word, the register, its fields in a line's sequence, the largest number
 /// of each that is in range.
@@ -84,6 +85,8 @@ pub fn awaited(register: &str) -> &'static str {
 /// The reading of a line, for the index that was asked for; none if a number is out of range.
 pub fn read(word: &str, index: u32, numbers: &[u32]) -> Option<Reading> {
     let kind = KINDS.iter().find(|kind| kind.word == word).unwrap();
+    let of_the_word = WORDS.iter().find(|known| known.0 == word).unwrap().1.len();
+    assert_eq!(kind.fields.len(), of_the_word, "the two tables of {word} differ");
     let mut fields = Vec::new();
     for ((name, largest), number) in kind.fields.iter().zip(numbers) {
         if number > largest {
@@ -91,7 +94,6 @@ pub fn read(word: &str, index: u32, numbers: &[u32]) -> Option<Reading> {
         }
         // States of the link that have no name are one.
         let number = if *name == "link_state" && *number > 8 { 0 } else { *number };
-        assert!(kind.word != "setup_bytes" || number < 256, "out of turn: not a byte");
         fields.push((*name, number));
     }
     Some(reading(kind.register, index as usize, &fields))

@@ -39,7 +39,7 @@ pub const WORDS: [(&str, &[u32]); 40] = [
     ("force_pm", &[ANY]),
     ("message_word", &[ANY]),
     ("transfer_status", &[ANY; 9]),
-    ("setup_bytes", &[ANY; 8]),
+    ("setup_bytes", &[255; 8]),
     ("ep0_length", &[ANY]),
     ("ep0_sequence", &[ANY]),
     ("chain_packets", &[ANY]),

@@ -3,8 +3,8 @@ use Prim.Native.Nat.{_-_, _≤_}
 use mathlib.Core.Path.{_≡_}
 use lib.ListN.{length}
 use borrow.Author.Needs.{needs}
-use Rattle.listing.proofs.input.keep.Statement.{statement}
-use Rattle.listing.proofs.input.keep.Tie as tie
+use Rattle.input.proofs.keep.Statement.{statement}
+use Rattle.input.proofs.keep.Tie as tie
 
 abbrev Inv-loop : tie.InvT-loop
 Inv-loop buffer₀ from end count i₀ buffer i = (i ≤ count) × (length buffer ≡ length buffer₀)

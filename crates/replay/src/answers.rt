@@ -1,0 +1,53 @@
+// The line that ends what is printed of a call.
+ghost use Prim.Native.Nat.{_+_, _≤_};
+ghost use lib.ListN.{length};
+use libc::STDOUT_FILENO;
+use state::Refusal;
+use state::Wakes;
+
+pub fn answer(number: u32, value: u32, wakes: Wakes) {
+    let mut text = [0u8; 60];
+    let a = print::put(&mut text, 0, b"answer");
+    let b = cell(&mut text, a, number);
+    let c = cell(&mut text, b, value);
+    let d = cell(&mut text, c, wakes.bus as u32);
+    let e = cell(&mut text, d, wakes.slots as u32);
+    let end = print::put(&mut text, e, b"\n");
+    io::write_all(STDOUT_FILENO, &text[0..end]);
+}
+
+// A number behind its tab.
+fn cell(text: &mut [u8], at: usize, n: u32) -> usize
+    requires { ⌜ at + 11 ≤ length (now text) ⌝ }
+    ensures { λ r. ⌜ r ≤ at + 11 ⌝ }
+{
+    let digits = print::put(text, at, b"\t");
+    print::put_number(text, digits, n)
+}
+
+// A value, and nobody to wake.
+pub fn done(value: u32) {
+    let wakes = state::waking::no_wakes();
+    answer(0, value, wakes);
+}
+
+pub fn refused(refusal: Refusal) {
+    let number = state::refusals::refusal_number(refusal);
+    let wakes = state::waking::no_wakes();
+    answer(number, 0, wakes);
+}
+
+// A take that has to wait.
+pub fn busy() {
+    io::write_all(STDOUT_FILENO, b"answer\tbusy\t0\t0\t0\n");
+}
+
+// An allocation that is refused: the Rust has one error for its five numbers.
+pub fn not_allocated() {
+    io::write_all(STDOUT_FILENO, b"answer\trefused\t0\t0\t0\n");
+}
+
+// A line that can't be read; nothing is done.
+pub fn unfit() {
+    io::write_all(STDOUT_FILENO, b"unfit\n");
+}

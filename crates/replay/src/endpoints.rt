@@ -1,0 +1,165 @@
+// Allocation, and the orders of an endpoint. A number too large for its type becomes the largest where that is refused
+// or ignored all the same.
+ghost use Prim.Native.Nat.{_≤_};
+use super::answers;
+use super::world;
+use super::world::World;
+use allocate::AllocateAnswer;
+use orders::OrderAnswer;
+use orders::OrderResult;
+use orders::QueryAnswer;
+use state::EndpointRequest;
+use state::EndpointType;
+
+fn least(a: u32, b: u32) -> u32
+    ensures { λ r. ⌜ r ≤ b ⌝ }
+{
+    if a < b { a } else { b }
+}
+
+pub fn byte_at(line: &[u8], k: usize) -> u8 {
+    let number = scripts::number(line, k);
+    least(number, 255) as u8
+}
+
+fn half_at(line: &[u8], k: usize) -> u16 {
+    let number = scripts::number(line, k);
+    least(number, 65535) as u16
+}
+
+pub fn flag_at(line: &[u8], k: usize) -> bool {
+    let number = scripts::number(line, k);
+    number != 0
+}
+
+pub fn allocate(world: World, line: &[u8]) -> World {
+    let fits = can_be_asked(line);
+    if fits {
+        return allocate_endpoint(world, line);
+    }
+    answers::unfit();
+    world
+}
+
+// Whether the numbers fit what an allocation is asked with.
+fn can_be_asked(line: &[u8]) -> bool {
+    let endpoint = scripts::number(line, 3);
+    let kind = scripts::number(line, 4);
+    let size = scripts::number(line, 5);
+    let interval = scripts::number(line, 6);
+    let burst = scripts::number(line, 7);
+    let streams = scripts::number(line, 8);
+    let mult = scripts::number(line, 9);
+    let bytes = (interval < 256) & (burst < 256) & (mult < 256);
+    (endpoint < 16) & (kind < 4) & (size < 65536) & (streams < 65536) & bytes
+}
+
+fn kind_of(number: u32) -> EndpointType {
+    if number == 0 {
+        return EndpointType::Control;
+    }
+    if number == 1 {
+        return EndpointType::Isochronous;
+    }
+    if number == 2 {
+        return EndpointType::Bulk;
+    }
+    EndpointType::Interrupt
+}
+
+fn request_of(line: &[u8]) -> EndpointRequest {
+    let requested = flag_at(line, 1);
+    let incoming = flag_at(line, 2);
+    let endpoint = byte_at(line, 3);
+    let number = scripts::number(line, 4);
+    let kind = kind_of(number);
+    let size = half_at(line, 5);
+    let interval = byte_at(line, 6);
+    let burst = byte_at(line, 7);
+    let streams = half_at(line, 8);
+    let mult = byte_at(line, 9);
+    EndpointRequest {
+        requested: requested,
+        index: endpoint,
+        incoming: incoming,
+        ep_type: kind,
+        max_packet_size: size,
+        interval_ms: interval,
+        max_burst: burst,
+        max_streams: streams,
+        mult: mult,
+    }
+}
+
+fn allocate_endpoint(world: World, line: &[u8]) -> World {
+    let incoming = flag_at(line, 0);
+    let request = request_of(line);
+    let driver = world.driver;
+    let allocated = allocate::allocate(driver, incoming, request);
+    let answer = allocated.answer;
+    match answer {
+        AllocateAnswer::Refused(refusal) => answers::not_allocated(),
+        AllocateAnswer::Endpoint(config) => answers::done(config.buffer.address),
+    }
+    let after = allocated.driver;
+    world::with_driver(world, after)
+}
+
+pub fn enable(list: &mut [u32; 640], world: World, line: &[u8]) -> World {
+    let incoming = flag_at(line, 0);
+    let index = byte_at(line, 1);
+    let flag = flag_at(line, 2);
+    let state = world.state;
+    let events = world.events;
+    let result = orders::endpoint_set_enabled(list, state, events, index, incoming, flag);
+    ordered(list, world, result)
+}
+
+pub fn stall(list: &mut [u32; 640], world: World, line: &[u8]) -> World {
+    let incoming = flag_at(line, 0);
+    let index = byte_at(line, 1);
+    let flag = flag_at(line, 2);
+    let state = world.state;
+    let events = world.events;
+    let result = orders::endpoint_set_stalled(list, state, events, index, incoming, flag);
+    ordered(list, world, result)
+}
+
+fn ordered(list: &[u32; 640], world: World, result: OrderResult) -> World {
+    print::operations(list, result.end);
+    let answer = result.answer;
+    let wakes = result.wakes;
+    match answer {
+        OrderAnswer::Refused(refusal) => answers::refused(refusal),
+        OrderAnswer::Ordered => answers::answer(0, 0, wakes),
+    }
+    let state = result.state;
+    world::with_state(world, state)
+}
+
+pub fn stalled(world: World, line: &[u8]) -> World {
+    let incoming = flag_at(line, 0);
+    let index = byte_at(line, 1);
+    let state = world.state;
+    let events = world.events;
+    let answer = orders::is_stalled(state, events, index, incoming);
+    said(answer);
+    world
+}
+
+pub fn enabled(world: World, line: &[u8]) -> World {
+    let incoming = flag_at(line, 0);
+    let index = byte_at(line, 1);
+    let state = world.state;
+    let events = world.events;
+    let answer = orders::is_enabled(state, events, index, incoming);
+    said(answer);
+    world
+}
+
+fn said(answer: QueryAnswer) {
+    match answer {
+        QueryAnswer::Refused(refusal) => answers::refused(refusal),
+        QueryAnswer::Says(yes) => answers::done(yes as u32),
+    }
+}

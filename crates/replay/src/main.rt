@@ -1,0 +1,12 @@
+// Runs a script of calls from standard input and prints what each of them does (docs/REPLAY.md).
+mod answers;
+mod calls;
+mod endpoints;
+mod run;
+mod show;
+mod transfers;
+mod world;
+
+fn main() {
+    run::script();
+}
