@@ -115,7 +115,7 @@ fn powered(list: &[u32; 640], world: World, result: PowerResult) -> World {
 }
 
 fn raise(world: World, line: &[u8]) -> World {
-    let event = endpoints::byte_at(line, 0);
+    let event = scripts::number_up_to(line, 0, 255) as u8;
     let events = world.events;
     let raised = events::raise(events, event);
     let answer = raised.answer;

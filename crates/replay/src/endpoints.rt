@@ -1,6 +1,5 @@
 // Allocation, and the orders of an endpoint. A number too large for its type becomes the largest where that is refused
 // or ignored all the same.
-ghost use Prim.Native.Nat.{_≤_};
 use super::answers;
 use super::world;
 use super::world::World;
@@ -10,27 +9,6 @@ use orders::OrderResult;
 use orders::QueryAnswer;
 use state::EndpointRequest;
 use state::EndpointType;
-
-fn least(a: u32, b: u32) -> u32
-    ensures { λ r. ⌜ r ≤ b ⌝ }
-{
-    if a < b { a } else { b }
-}
-
-pub fn byte_at(line: &[u8], k: usize) -> u8 {
-    let number = scripts::number(line, k);
-    least(number, 255) as u8
-}
-
-fn half_at(line: &[u8], k: usize) -> u16 {
-    let number = scripts::number(line, k);
-    least(number, 65535) as u16
-}
-
-pub fn flag_at(line: &[u8], k: usize) -> bool {
-    let number = scripts::number(line, k);
-    number != 0
-}
 
 pub fn allocate(world: World, line: &[u8]) -> World {
     let fits = can_be_asked(line);
@@ -68,16 +46,16 @@ fn kind_of(number: u32) -> EndpointType {
 }
 
 fn request_of(line: &[u8]) -> EndpointRequest {
-    let requested = flag_at(line, 1);
-    let incoming = flag_at(line, 2);
-    let endpoint = byte_at(line, 3);
+    let requested = scripts::flag(line, 1);
+    let incoming = scripts::flag(line, 2);
+    let endpoint = scripts::number_up_to(line, 3, 255) as u8;
     let number = scripts::number(line, 4);
     let kind = kind_of(number);
-    let size = half_at(line, 5);
-    let interval = byte_at(line, 6);
-    let burst = byte_at(line, 7);
-    let streams = half_at(line, 8);
-    let mult = byte_at(line, 9);
+    let size = scripts::number_up_to(line, 5, 65535) as u16;
+    let interval = scripts::number_up_to(line, 6, 255) as u8;
+    let burst = scripts::number_up_to(line, 7, 255) as u8;
+    let streams = scripts::number_up_to(line, 8, 65535) as u16;
+    let mult = scripts::number_up_to(line, 9, 255) as u8;
     EndpointRequest {
         requested: requested,
         index: endpoint,
@@ -92,7 +70,7 @@ fn request_of(line: &[u8]) -> EndpointRequest {
 }
 
 fn allocate_endpoint(world: World, line: &[u8]) -> World {
-    let incoming = flag_at(line, 0);
+    let incoming = scripts::flag(line, 0);
     let request = request_of(line);
     let driver = world.driver;
     let allocated = allocate::allocate(driver, incoming, request);
@@ -106,9 +84,9 @@ fn allocate_endpoint(world: World, line: &[u8]) -> World {
 }
 
 pub fn enable(list: &mut [u32; 640], world: World, line: &[u8]) -> World {
-    let incoming = flag_at(line, 0);
-    let index = byte_at(line, 1);
-    let flag = flag_at(line, 2);
+    let incoming = scripts::flag(line, 0);
+    let index = scripts::number_up_to(line, 1, 255) as u8;
+    let flag = scripts::flag(line, 2);
     let state = world.state;
     let events = world.events;
     let result = orders::endpoint_set_enabled(list, state, events, index, incoming, flag);
@@ -116,9 +94,9 @@ pub fn enable(list: &mut [u32; 640], world: World, line: &[u8]) -> World {
 }
 
 pub fn stall(list: &mut [u32; 640], world: World, line: &[u8]) -> World {
-    let incoming = flag_at(line, 0);
-    let index = byte_at(line, 1);
-    let flag = flag_at(line, 2);
+    let incoming = scripts::flag(line, 0);
+    let index = scripts::number_up_to(line, 1, 255) as u8;
+    let flag = scripts::flag(line, 2);
     let state = world.state;
     let events = world.events;
     let result = orders::endpoint_set_stalled(list, state, events, index, incoming, flag);
@@ -138,8 +116,8 @@ fn ordered(list: &[u32; 640], world: World, result: OrderResult) -> World {
 }
 
 pub fn stalled(world: World, line: &[u8]) -> World {
-    let incoming = flag_at(line, 0);
-    let index = byte_at(line, 1);
+    let incoming = scripts::flag(line, 0);
+    let index = scripts::number_up_to(line, 1, 255) as u8;
     let state = world.state;
     let events = world.events;
     let answer = orders::is_stalled(state, events, index, incoming);
@@ -148,8 +126,8 @@ pub fn stalled(world: World, line: &[u8]) -> World {
 }
 
 pub fn enabled(world: World, line: &[u8]) -> World {
-    let incoming = flag_at(line, 0);
-    let index = byte_at(line, 1);
+    let incoming = scripts::flag(line, 0);
+    let index = scripts::number_up_to(line, 1, 255) as u8;
     let state = world.state;
     let events = world.events;
     let answer = orders::is_enabled(state, events, index, incoming);

@@ -1,6 +1,5 @@
 // Transfers: begin, take, abandon, and the report of a chain.
 use super::answers;
-use super::endpoints;
 use super::world;
 use super::world::World;
 use report::Reported;
@@ -12,11 +11,11 @@ use transfer::BeginAnswer;
 use transfer::TakeAnswer;
 
 pub fn begin(list: &mut [u32; 640], world: World, line: &[u8]) -> World {
-    let incoming = endpoints::flag_at(line, 0);
-    let index = endpoints::byte_at(line, 1);
+    let incoming = scripts::flag(line, 0);
+    let index = scripts::number_up_to(line, 1, 255) as u8;
     let address = scripts::number(line, 2);
     let length = scripts::number(line, 3);
-    let zlp = endpoints::flag_at(line, 4);
+    let zlp = scripts::flag(line, 4);
     let state = world.state;
     let events = world.events;
     let begun = transfer::begin(list, state, events, index, incoming, address, length, zlp);
@@ -32,8 +31,8 @@ pub fn begin(list: &mut [u32; 640], world: World, line: &[u8]) -> World {
 }
 
 pub fn take(world: World, line: &[u8]) -> World {
-    let incoming = endpoints::flag_at(line, 0);
-    let index = endpoints::byte_at(line, 1);
+    let incoming = scripts::flag(line, 0);
+    let index = scripts::number_up_to(line, 1, 255) as u8;
     let state = world.state;
     let events = world.events;
     let taken = transfer::take(state, events, index, incoming);
@@ -49,8 +48,8 @@ pub fn take(world: World, line: &[u8]) -> World {
 }
 
 pub fn abandon(list: &mut [u32; 640], world: World, line: &[u8]) -> World {
-    let incoming = endpoints::flag_at(line, 0);
-    let index = endpoints::byte_at(line, 1);
+    let incoming = scripts::flag(line, 0);
+    let index = scripts::number_up_to(line, 1, 255) as u8;
     let state = world.state;
     let events = world.events;
     let abandoned = transfer::abandon(list, state, events, index, incoming);
@@ -68,12 +67,12 @@ pub fn abandon(list: &mut [u32; 640], world: World, line: &[u8]) -> World {
 // A report stands for an interrupt of its own, so that it is asked of a data endpoint and with power.
 pub fn report(list: &mut [u32; 640], world: World, line: &[u8]) -> World {
     let state = world.state;
-    let index = endpoints::byte_at(line, 1);
+    let index = scripts::number_up_to(line, 1, 255) as u8;
     let data = state::slots::is_data_endpoint(index);
     let packets = scripts::number(line, 2);
     let last = scripts::number(line, 3);
     if state.powered & data & (packets < 256) & (last < 65536) {
-        let incoming = endpoints::flag_at(line, 0);
+        let incoming = scripts::flag(line, 0);
         let reported = report_chain(list, state, index, incoming, packets, last);
         print::operations(list, reported.end);
         let after = reported.state;

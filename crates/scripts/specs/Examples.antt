@@ -1,15 +1,13 @@
 -- Lines of scripts, and what they say: full and shortened ones, and damaged ones.
 -- Assumes nothing.
-use Prim.Native.Nat.{ℕ, _+_}
+use Prim.Native.Nat.{ℕ}
 use Prim.Native.String.{String}
 use mathlib.Core.List.{List, [], _∷_, map}
 use mathlib.Core.Path.{_≡_, refl}
-use lib.ListN.{getD}
 use Rattle.lines.specs.Line.{fields, decimal, numberb}
-use Rattle.lines.specs.Digits.{valueOf}
 use Rattle.scripts.specs.declared.Word.{Word}
 use Rattle.scripts.specs.declared.Word.the-variants.{Unfit, Driver, Allocate, Start, On, Off, Enable, Stall, Stalled, Enabled, Raise, Poll, Reset, Begin, Take, Abandon, Report, Show}
-use Rattle.scripts.specs.Script.{bytes, numbersFit, readCall}
+use Rattle.scripts.specs.Script.{bytes, numberAt, numbersFit, readCall}
 
 infix 70 _says_
 pub record Example : Type 0 where
@@ -72,7 +70,7 @@ unfolding fields decimal numberb numbersFit readCall
 said = refl
 
 -- the numbers of a line: number 3 is left out
-pub numbers : map (λ (k : ℕ). valueOf (getD (fields (bytes "report\t1\t007\t4294967295")) (k + 1) [])) (0 ∷ 1 ∷ 2 ∷ 3 ∷ 9 ∷ [])
+pub numbers : map (numberAt (bytes "report\t1\t007\t4294967295")) (0 ∷ 1 ∷ 2 ∷ 3 ∷ 9 ∷ [])
     ≡ (1 ∷ 7 ∷ 4294967295 ∷ 0 ∷ 0 ∷ [])
 unfolding fields decimal numberb
 numbers = refl

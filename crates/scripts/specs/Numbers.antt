@@ -12,7 +12,7 @@ use Rattle.lines.specs.Line.{tab, fields, numberb}
 use Rattle.lines.specs.Search.{seek, seek-le}
 use Rattle.lines.specs.declared.NumberAt.{NumberAt}
 use Rattle.lines.specs.Fields.{rest, ReadAt, firstOf, noneb, first-word, behind-line}
-use Rattle.scripts.specs.Script.{numbersFit}
+use Rattle.scripts.specs.Script.{numbersFit, heldTo}
 
 -- the word ends with the line or before
 pub word-within : (line : List ℕ) (end : ℕ) → end ≡ seek line 0 tab → end ≤ length line
@@ -70,3 +70,10 @@ module _ {line : List ℕ} {most at i : ℕ} (l : Left line most at i) where
   left-full h =
       let e : most - i ≡ 0 = omega arith in
       behind-line line at ∙ no-more (rest line at) ∙ rw⁻¹ e (sym (l .decides))
+
+-- a number that was read, held to the most
+pub held-at : (most v n : ℕ) → v ≡ n → most < v → (most ≤ most) × (most ≡ heldTo most n)
+held-at most v n e h = (omega arith, rw (lt-ltb most n (omega (arith, e, h))))
+
+pub held-within : (most v n : ℕ) → v ≡ n → v ≤ most → (v ≤ most) × (v ≡ heldTo most n)
+held-within most v n e h = (h, e ∙ rw (le-ltb most n (omega (arith, e, h))))

@@ -1,13 +1,14 @@
 -- What a line of a script asks for (docs/REPLAY.md, the tables of words).
 -- Assumes nothing.
-use Prim.Native.Nat.{ℕ}
+use Prim.Native.Nat.{ℕ, _+_}
 use Prim.Native.Char.{code}
 use Prim.Native.String.{String, [] as empty, _∷_ as _before_}
 use mathlib.Core.Bool.{Bool, cond, _&&_}
 use mathlib.Core.List.{List, [], _∷_}
-use lib.Dec.{leb}
+use lib.Dec.{ltb, leb}
 use lib.ListN.{length, getD, drop}
 use Rattle.lines.specs.Line.{fields, sameb, allb, numberb}
+use Rattle.lines.specs.Digits.{valueOf}
 use Rattle.scripts.specs.declared.Word.{Word}
 use Rattle.scripts.specs.declared.Meant.{Meant}
 use Rattle.scripts.specs.declared.Word.the-variants.{Unfit, Driver, Allocate, Start, On, Off, Enable, Stall, Stalled, Enabled, Raise, Poll, Reset, Begin, Take, Abandon, Report, Show}
@@ -59,6 +60,14 @@ named word (row ∷ more) = cond (sameb word (bytes (row .name))) (row .meant) (
 
 abbrev pub meaningOf : List ℕ → Meant
 meaningOf word = named word rows
+
+-- number k of a line, the first being number 0; 0 where it is left out
+abbrev pub numberAt : List ℕ → ℕ → ℕ
+numberAt line k = valueOf (getD (fields line) (k + 1) [])
+
+-- a number held to the most that its use has room for
+abbrev pub heldTo : ℕ → ℕ → ℕ
+heldTo most n = cond (ltb most n) most n
 
 -- the fields behind a word are numbers, and no more than the call takes
 unfoldable pub numbersFit : ℕ → List (List ℕ) → Bool

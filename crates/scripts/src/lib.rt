@@ -1,13 +1,12 @@
 // Lines of a script of calls (docs/REPLAY.md): which call a line asks for, and its numbers.
 ghost use mathlib.Core.Path.{_≡_};
-ghost use lib.ListN.{getD, drop};
-ghost use mathlib.Core.List.{[]};
-ghost use Prim.Native.Nat.{_+_};
+ghost use Prim.Native.Nat.{_≤_};
+ghost use lib.Dec.{ltb};
+ghost use lib.ListN.{drop};
 ghost use Rattle.lines.specs.Line.{fields};
 ghost use Rattle.lines.specs.Fields.{rest};
-ghost use Rattle.lines.specs.Digits.{valueOf};
 ghost use Rattle.scripts.specs.Rows.{Picked};
-ghost use Rattle.scripts.specs.Script.{_taking_, meaningOf, numbersFit, readCall};
+ghost use Rattle.scripts.specs.Script.{_taking_, meaningOf, numberAt, heldTo, numbersFit, readCall};
 
 const TAB: u8 = 9;
 
@@ -121,7 +120,7 @@ pub fn read_call(line: &[u8]) -> Word
 
 // A line's number `k`, the first being number 0; 0 where it is left out.
 pub fn number(line: &[u8], k: usize) -> u32
-    ensures { λ r. ⌜ r ≡ valueOf (getD (fields (now (line .entry))) (k + 1) []) ⌝ }
+    ensures { λ r. ⌜ r ≡ numberAt (now (line .entry)) k ⌝ }
 {
     let mut at = behind_word(line);
     let mut i: usize = 0;
@@ -132,4 +131,21 @@ pub fn number(line: &[u8], k: usize) -> u32
     }
     let number = lines::number_at(line, at);
     number.value
+}
+
+// The same, but a larger one is `most`.
+pub fn number_up_to(line: &[u8], k: usize, most: u32) -> u32
+    ensures small { λ r. ⌜ r ≤ most ⌝ }
+    ensures value { λ r. ⌜ r ≡ heldTo most (numberAt (now (line .entry)) k) ⌝ }
+{
+    let n = number(line, k);
+    if most < n { most } else { n }
+}
+
+// Whether number `k` sets a flag: 0 doesn't.
+pub fn flag(line: &[u8], k: usize) -> bool
+    ensures { λ r. ⌜ r ≡ ltb 0 (numberAt (now (line .entry)) k) ⌝ }
+{
+    let n = number(line, k);
+    0 < n
 }

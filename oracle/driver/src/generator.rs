@@ -664,7 +664,7 @@ fn life(random: &mut Random, count: usize, script: &mut Script) {
             }
             65..=79 => format!("take\t{incoming}\t{endpoint}"),
             80..=83 => format!("abandon\t{incoming}\t{endpoint}"),
-            84..=87 => format!("stall\t{incoming}\t{endpoint}\t{}", usize::from(random.one_in(3))),
+            84..=87 => format!("stall\t{incoming}\t{endpoint}\t{}", random.below(2)),
             88..=93 => format!("enable\t{incoming}\t{endpoint}\t{on}"),
             94 if endpoint != 0 && random.one_in(2) => format!("enabled\t{incoming}\t{endpoint}"),
             94 => format!("stalled\t{incoming}\t{endpoint}"),
@@ -686,7 +686,16 @@ fn life(random: &mut Random, count: usize, script: &mut Script) {
             moving(random, incoming, endpoint, size, script);
             continue;
         }
+        // What an order left is often asked for.
+        let left = match call.split('\t').next() {
+            Some("stall") => Some("stalled"),
+            Some("enable") if endpoint != 0 => Some("enabled"),
+            _ => None,
+        };
         script.push(call);
+        if let Some(left) = left.filter(|_| random.one_in(2)) {
+            script.push(joined(left, &[incoming, endpoint]));
+        }
     }
     script.push("off".into());
     script.push("state".into());

@@ -1,5 +1,6 @@
 //! Plants mistakes in copies of the port, one at a time, and tells which the comparison finds.
-//! Arguments: the repository, a seed, how many calls.
+//! Arguments: the repository, a seed, how many calls, and parts of the names of edits to try, where
+//! not all are to be tried. `rt` stops a program that prints over a mebibyte.
 //! The mistakes are the must-fail edits of code that `replay` stands on. Each copy is compiled
 //! without proof by `rt try` and runs a random script; the Rust's answers are its stored output.
 use std::collections::BTreeMap;
@@ -107,8 +108,8 @@ fn verdict(root: &Path) -> &'static str {
 
 fn main() -> ExitCode {
     let arguments: Vec<String> = env::args().skip(1).collect();
-    let [root, seed, count] = &arguments[..] else {
-        eprintln!("arguments: the repository, a seed, how many calls");
+    let [root, seed, count, wanted @ ..] = &arguments[..] else {
+        eprintln!("arguments: the repository, a seed, how many calls, parts of names");
         return ExitCode::FAILURE;
     };
     let root = Path::new(root);
@@ -121,7 +122,8 @@ fn main() -> ExitCode {
     fs::write(place.join("crates").join(PROGRAM).join("stdout"), answers).unwrap();
     assert_eq!(verdict(&place), "missed", "without a mistake the program has to be right");
     let mut counts: BTreeMap<&str, usize> = BTreeMap::new();
-    for edit in reached(root, PROGRAM).iter().flat_map(|name| edits(root, name)) {
+    let edits = reached(root, PROGRAM).into_iter().flat_map(|name| edits(root, &name));
+    for edit in edits.filter(|edit| wanted.is_empty() || wanted.iter().any(|part| edit.name.contains(&part[..]))) {
         let file = place.join(&edit.file);
         let right = fs::read_to_string(&file).unwrap();
         assert_eq!(right.matches(&edit.old).count(), 1, "{}", edit.name);
