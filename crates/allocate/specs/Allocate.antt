@@ -15,7 +15,7 @@ use Rattle.state.specs.declared.Refusal.{Refusal}
 use Rattle.state.specs.declared.Refusal.the-variants.{MemoryOutsideRam, MemoryTooSmall, UnfitPacketSize, UnfitBurst, WrongDirection, NoFreeEndpoint, NoRoom, Unsound}
 use Rattle.state.specs.declared.Check.{Check}
 use Rattle.state.specs.declared.Check.the-variants.{Fits, Refused}
-use Rattle.state.specs.Slots.{slotNumber}
+use Rattle.slots.specs.Slots.{slotNumber}
 use Rattle.state.specs.Fresh.{noAllocation}
 use Rattle.state.specs.Numbers.{refusalNumber, checkNumber}
 use Rattle.state.specs.Refusals.{Due, _if_, firstDue, Bound, bound, none-due, not-due}

@@ -19,10 +19,10 @@ use Rattle.state.specs.declared.Allocation.{Allocation}
 use Rattle.state.specs.declared.Driver.{Driver}
 use Rattle.state.specs.declared.Check.{Check}
 use Rattle.state.specs.declared.Check.the-variants.{Fits, Refused}
-use Rattle.state.specs.Slots.{slotNumber}
+use Rattle.slots.specs.Slots.{slotNumber}
 use Rattle.state.specs.Fresh.{noAllocation, allocationAt}
 use Rattle.state.specs.Refusals.{none-due, not-due}
-use Rattle.state.specs.Each.{every, and-left, and-right, true-not-false}
+use Rattle.slots.specs.Each.{every, and-left, and-right, true-not-false}
 use Rattle.sound.specs.Clauses.{inRam, aligned}
 use Rattle.sound.specs.Sound.{configb, driverSoundb}
 use Rattle.sound.specs.Facts.{InRam, in-ram, in-ram-is, DriverFacts, driver-is}

@@ -8,9 +8,9 @@ use borrow.Author.Tests.{eqb-true, eqb-false, not-true}
 use lib.Dec.{eqb}
 use Rattle.state.specs.declared.EndpointRequest.{EndpointRequest}
 use Rattle.state.specs.declared.Driver.{Driver}
-use Rattle.state.specs.Slots.{slotNumber}
+use Rattle.slots.specs.Slots.{slotNumber}
 use Rattle.state.specs.Fresh.{allocationAt}
-use Rattle.state.specs.Each.{and-left, and-right, implied}
+use Rattle.slots.specs.Each.{and-left, and-right, implied}
 use Rattle.allocate.specs.Rules.{up4, lowest, available, endpointFor}
 
 pub up4-above : (n : ℕ) → n ≤ up4 n

@@ -11,7 +11,7 @@ use Rattle.state.specs.declared.EndpointType.{EndpointType}
 use Rattle.state.specs.declared.EndpointType.the-variants.{Control, Isochronous, Bulk, Interrupt}
 use Rattle.state.specs.declared.EndpointRequest.{EndpointRequest}
 use Rattle.state.specs.declared.Driver.{Driver}
-use Rattle.state.specs.Slots.{slotNumber, bit-small}
+use Rattle.slots.specs.Slots.{slotNumber, bit-small}
 use Rattle.state.specs.Fresh.{allocationAt}
 
 -- the next multiple of 4, n itself if it is one

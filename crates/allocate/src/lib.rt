@@ -83,7 +83,7 @@ fn is_available(driver: Driver, incoming: bool, requested: bool, index: u8, e: u
     requires { ⌜ e ≤ 7 ⌝ }
     ensures { λ r. ⌜ r ≡ available driver incoming requested index e ⌝ }
 {
-    let i = state::slots::slot_number(e, incoming);
+    let i = slots::slot_number(e, incoming);
     let a = driver.endpoints[i];
     !a.configured & (!requested | (index == e))
 }
@@ -222,7 +222,7 @@ fn place(driver: Driver, incoming: bool, request: EndpointRequest) -> AllocateRe
             size: size,
         },
     };
-    let i = state::slots::slot_number(e, incoming);
+    let i = slots::slot_number(e, incoming);
     let mut d = driver;
     d.endpoints[i] = Allocation {
         configured: true,

@@ -13,12 +13,12 @@ use Rattle.state.specs.declared.Phase.the-variants.{Idle}
 use Rattle.state.specs.declared.State.{State}
 use Rattle.state.specs.declared.Events.{Events}
 use Rattle.state.specs.Fresh.{freshSlot, freshState, slotAt}
-use Rattle.state.specs.Slots.{busyb, slotNumber, stateWith}
+use Rattle.slots.specs.Slots.{busyb, slotNumber, stateWith}
 use Rattle.state.specs.declared.EndpointType.{EndpointType}
 use Rattle.state.specs.declared.EndpointType.the-variants.{Bulk, Interrupt}
 use Rattle.state.specs.declared.EndpointRequest.{EndpointRequest}
 use Rattle.state.specs.declared.Driver.{Driver}
-use Rattle.state.specs.Each.{every, count}
+use Rattle.slots.specs.Each.{every, count}
 use Rattle.events.specs.Pending.{suspend, resume}
 use Rattle.events.specs.Events.{raiseEvents, pollAnswer, pollNumbers}
 use Rattle.sound.specs.Sound.{driverSoundb, soundb}

@@ -61,8 +61,8 @@ fn enabled(request: Request, index: u8) -> State {
         return fresh;
     }
     let slot = enabled_slot(request, index);
-    let i = state::slots::slot_number(index, request.incoming);
-    state::slots::with_slot(fresh, i, slot)
+    let i = slots::slot_number(index, request.incoming);
+    slots::with_slot(fresh, i, slot)
 }
 
 fn enabled_slot(request: Request, index: u8) -> Slot {
@@ -99,13 +99,13 @@ fn enabled_slot(request: Request, index: u8) -> Slot {
 fn reports(list: &mut [u32], begun: State, index: u8, request: Request)
     requires { ⌜ records 7 ≤ length (now list) ⌝ }
 {
-    let i = state::slots::slot_number(index, request.incoming);
+    let i = slots::slot_number(index, request.incoming);
     let mut state = begun;
     let mut turns = (request.length as u64) + 2;
     while 0 < turns {
-        let slot = state::slots::slot_at(state, i);
+        let slot = slots::slot_at(state, i);
         let phase = slot.phase;
-        let busy = state::slots::is_busy(phase);
+        let busy = slots::is_busy(phase);
         if !busy {
             answers::done(index as u32, slot.transfer.progress);
             return;

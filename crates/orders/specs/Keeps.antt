@@ -11,11 +11,11 @@ use Rattle.state.specs.declared.State.{State}
 use Rattle.state.specs.declared.Events.{Events}
 use Rattle.state.specs.declared.Check.{Check}
 use Rattle.state.specs.declared.Check.the-variants.{Fits, Refused}
-use Rattle.state.specs.Slots.{dataEndpoint, slotNumber, forgotten, bit-small}
+use Rattle.slots.specs.Slots.{dataEndpoint, slotNumber, forgotten, bit-small}
 use Rattle.state.specs.Fresh.{slotAt}
-use Rattle.state.specs.Tally.{KeepsAccount, forgotten-keeps, unmoved}
-use Rattle.state.specs.Stored.{stored-slot}
-use Rattle.state.specs.Each.{and-left, and-right}
+use Rattle.slots.specs.Tally.{KeepsAccount, forgotten-keeps, unmoved}
+use Rattle.slots.specs.Stored.{stored-slot}
+use Rattle.slots.specs.Each.{and-left, and-right}
 use Rattle.sound.specs.Sound.{soundb, slotb}
 use Rattle.sound.specs.Facts.{slot-sound, idled-sound, one-slot-sound}
 use Rattle.orders.specs.Orders.{slotOf, reached, fit, orderedSlot, madeState, orderCheck, resultAt, orderResult}

@@ -18,10 +18,10 @@ use Rattle.state.specs.declared.Refusal.{Refusal}
 use Rattle.state.specs.declared.Refusal.the-variants.{ListTooShort, Unsound, OutOfTurn}
 use Rattle.state.specs.declared.Check.{Check}
 use Rattle.state.specs.declared.Check.the-variants.{Fits, Refused}
-use Rattle.state.specs.Slots.{busyb, slotNumber, dataEndpoint, forgotten, resetSlot, withSlot}
+use Rattle.slots.specs.Slots.{busyb, slotNumber, dataEndpoint, forgotten, resetSlot, withSlot}
 use Rattle.state.specs.Fresh.{slotAt}
 use Rattle.state.specs.Awaiting.{awaitingb}
-use Rattle.state.specs.Waking.{noWakes, wakeSlot}
+use Rattle.slots.specs.Waking.{noWakes, wakeSlot}
 use Rattle.state.specs.Numbers.{refusalNumber, checkNumber}
 use Rattle.state.specs.Refusals.{Due, _if_, firstDue, Bound, bound}
 use Rattle.sound.specs.Sound.{soundb}

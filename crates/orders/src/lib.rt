@@ -54,12 +54,12 @@ fn is_isochronous(ep_type: EndpointType) -> bool
 fn wakes_of(index: u8, incoming: bool) -> Wakes
     ensures { λ r. ⌜ r ≡ orderWakes index incoming ⌝ }
 {
-    let there = state::slots::is_data_endpoint(index);
-    let i = state::slots::slot_number(index, incoming);
+    let there = slots::is_data_endpoint(index);
+    let i = slots::slot_number(index, incoming);
     if there {
-        return state::waking::wake_slot(i);
+        return slots::waking::wake_slot(i);
     }
-    state::waking::no_wakes()
+    slots::waking::no_wakes()
 }
 
 // Ends the chain of a busy transfer, then has the endpoint answer STALL or no longer.
@@ -68,7 +68,7 @@ fn stall_ops(ops: &mut [u32], index: u32, incoming: bool, x: Slot, stalled: bool
     ensures { λ r. ⌜ Wrote (now (ops .entry)) 0 (orderedOps (Stall stalled) index incoming x) r (now (ops .exit)) ⌝ }
 {
     let phase = x.phase;
-    let busy = state::slots::is_busy(phase);
+    let busy = slots::is_busy(phase);
     let a = regs_endpoint::abort_busy(ops, 0, index, incoming, busy);
     if stalled {
         return regs_endpoint::halt(ops, a, index, incoming);
@@ -106,8 +106,8 @@ fn ordered_slot(order: Order, x: Slot) -> Slot
     ensures { λ r. ⌜ r ≡ orderedSlot order x ⌝ }
 {
     match order {
-        Order::Stall(stalled) => state::slots::forget(x, true, x.enabled, stalled),
-        Order::Enable(enabled) => state::slots::reset(x, true, enabled),
+        Order::Stall(stalled) => slots::forget(x, true, x.enabled, stalled),
+        Order::Enable(enabled) => slots::reset(x, true, enabled),
     }
 }
 
@@ -128,12 +128,12 @@ fn make(ops: &mut [u32], state: State, index: u8, incoming: bool, order: Order) 
     ensures list { λ r. ⌜ Wrote (now (ops .entry)) 0 (madeOps state index incoming order) (r .end) (now (ops .exit)) ⌝ }
 {
     let wakes = wakes_of(index, incoming);
-    let there = state::slots::is_data_endpoint(index);
-    let i = state::slots::slot_number(index, incoming);
-    let x = state::slots::slot_at(state, i);
+    let there = slots::is_data_endpoint(index);
+    let i = slots::slot_number(index, incoming);
+    let x = slots::slot_at(state, i);
     let ready = is_ready(order, x.enabled);
     let y = ordered_slot(order, x);
-    let s = state::slots::with_slot(state, i, y);
+    let s = slots::with_slot(state, i, y);
     if there & (state.powered & x.configured) & ready {
         let end = ordered_ops(ops, index as u32, incoming, x, order);
         return OrderResult {
@@ -154,7 +154,7 @@ fn make(ops: &mut [u32], state: State, index: u8, incoming: bool, order: Order) 
 fn refused(refusal: Refusal, state: State) -> OrderResult
     ensures { λ r. ⌜ r ≡ refusedOrder refusal state ⌝ }
 {
-    let wakes = state::waking::no_wakes();
+    let wakes = slots::waking::no_wakes();
     OrderResult {
         answer: OrderAnswer::Refused(refusal),
         state: state,
@@ -230,8 +230,8 @@ pub fn is_stalled(state: State, events: Events, index: u8, incoming: bool) -> Qu
     ensures result { λ r. ⌜ r ≡ queryAnswer state events (stalledb state index incoming) ⌝ }
     ensures numbers { λ r. ⌜ queryNumbers r ≡ numbersAt (queryCheck state events) (stalledb state index incoming) ⌝ }
 {
-    let i = state::slots::slot_number(index, incoming);
-    let x = state::slots::slot_at(state, i);
+    let i = slots::slot_number(index, incoming);
+    let x = slots::slot_at(state, i);
     answer(state, events, (index < 8) & x.stalled)
 }
 
@@ -239,7 +239,7 @@ pub fn is_enabled(state: State, events: Events, index: u8, incoming: bool) -> Qu
     ensures result { λ r. ⌜ r ≡ queryAnswer state events (enabledb state index incoming) ⌝ }
     ensures numbers { λ r. ⌜ queryNumbers r ≡ numbersAt (queryCheck state events) (enabledb state index incoming) ⌝ }
 {
-    let i = state::slots::slot_number(index, incoming);
-    let x = state::slots::slot_at(state, i);
+    let i = slots::slot_number(index, incoming);
+    let x = slots::slot_at(state, i);
     answer(state, events, (index < 8) & (state.powered & x.enabled))
 }

@@ -1,3 +1,2 @@
-pub mod Reset
 pub mod Power
 pub mod Keeps

@@ -17,17 +17,17 @@ use Rattle.state.specs.declared.Refusal.{Refusal}
 use Rattle.state.specs.declared.Refusal.the-variants.{ListTooShort, OutOfRange, Disabled, OutOfTurn, Unsound}
 use Rattle.state.specs.declared.Check.{Check}
 use Rattle.state.specs.declared.Check.the-variants.{Fits, Refused}
-use Rattle.state.specs.Slots.{stateWith}
+use Rattle.slots.specs.Slots.{stateWith}
 use Rattle.state.specs.Awaiting.{awaitingb}
-use Rattle.state.specs.Waking.{noWakes, wakeAll}
+use Rattle.slots.specs.Waking.{noWakes, wakeAll}
 use Rattle.state.specs.Numbers.{refusalNumber, checkNumber}
 use Rattle.state.specs.Refusals.{Due, _if_, firstDue, none-due, not-due, Bound, bound}
-use Rattle.state.specs.Each.{change}
+use Rattle.slots.specs.Each.{change}
 use Rattle.sound.specs.Sound.{soundb}
 use Rattle.sound.specs.Turn.{admitted-room}
 use Rattle.regs.specs.Device.{shutdownOps}
 use Rattle.regs.specs.Room.{powerOnOps, longest}
-use Rattle.power.specs.Reset.{slotReset, resetWith}
+use Rattle.reset.specs.Reset.{slotReset, resetWith}
 use Rattle.power.specs.declared.PowerAnswer.{PowerAnswer}
 use Rattle.power.specs.declared.PowerAnswer.the-variants as power
 use Rattle.power.specs.declared.PowerResult.{PowerResult}

@@ -1,15 +1,9 @@
-// Power on and off, and the reset of the bus (reference: `Bus` and `bus_reset` of device.rs).
+// Power on and off (reference: `Bus` of device.rs).
 ghost use mathlib.Core.Path.{_≡_};
-ghost use mathlib.Core.Bool.{true, false};
-ghost use Prim.Native.Nat.{_+_, _≤_};
+ghost use Prim.Native.Nat.{_≤_};
 ghost use lib.ListN.{length};
-ghost use Rattle.ops.specs.Ops.{records};
 ghost use Rattle.ops.specs.Wrote.{Wrote};
-ghost use Rattle.state.specs.Each.{change};
 ghost use Rattle.state.specs.Numbers.{checkNumber};
-ghost use Rattle.state.specs.Slots.{withSlots};
-ghost use Rattle.regs.specs.Room.{busResetOps};
-ghost use Rattle.power.specs.Reset.{slotReset, busResetState};
 ghost use Rattle.power.specs.Power.{onStep, shutOps, offStep, madeResult, refusedPower, onCheck, offCheck, powerOnResult, powerOnList, powerOffResult, powerOffList, powerNumber};
 use state::Check;
 use state::Events;
@@ -31,60 +25,6 @@ pub struct PowerResult {
     pub wakes: Wakes,
 }
 
-// What a bus reset leaves.
-pub struct Reset {
-    pub state: State,
-    pub end: usize,
-}
-
-// Every slot reset; endpoint 0's are on behind it where `on` is set.
-fn reset_slots(state: State, on: bool) -> State
-    ensures { λ r. ⌜ r ≡ withSlots state (change (slotReset on) 16 (state .endpoints)) ⌝ }
-{
-    let mut s = state;
-    let mut i: usize = 0;
-    while i < 16 {
-        let x = state.endpoints[i];
-        let y = state::slots::reset(x, 2 <= i, on & (i < 2));
-        s.endpoints[i] = y;
-        i = i + 1;
-    }
-    s
-}
-
-// Every slot off, its transfer cut.
-pub fn reset_all(state: State) -> State
-    ensures { λ r. ⌜ r ≡ withSlots state (change (slotReset false) 16 (state .endpoints)) ⌝ }
-{
-    reset_slots(state, false)
-}
-
-fn reset_state(state: State) -> State
-    ensures { λ r. ⌜ r ≡ busResetState state ⌝ }
-{
-    let mut s = reset_slots(state, true);
-    s.suspended = false;
-    s.low_power = false;
-    s.has_setup = false;
-    s.control_generation = std::num::wrapping_add_u32(state.control_generation, 1);
-    s.has_address = false;
-    s.in_last = false;
-    s.wake = 65535;
-    s
-}
-
-// Protocol layer, endpoints, address and control transfer start over.
-pub fn bus_reset(ops: &mut [u32], at: usize, state: State) -> Reset
-    requires { ⌜ at + records 83 ≤ length (now ops) ⌝ }
-    ensures state { λ r. ⌜ r .state ≡ busResetState state ⌝ }
-    ensures list { λ r. ⌜ Wrote (now (ops .entry)) at (busResetOps (state .«ep0_address»)) (r .end) (now (ops .exit)) ⌝ }
-{
-    let a = regs::protocol_reset(ops, at, state.ep0_address);
-    let end = regs_link::link_power_allow(ops, a, false);
-    let s = reset_state(state);
-    Reset { state: s, end: end }
-}
-
 // A power-on that isn't refused.
 fn switch_on(ops: &mut [u32], state: State, revision: u32) -> PowerResult
     requires room { ⌜ 640 ≤ length (now ops) ⌝ }
@@ -92,7 +32,7 @@ fn switch_on(ops: &mut [u32], state: State, revision: u32) -> PowerResult
     ensures result { λ r. ⌜ r ≡ madeResult (onStep state revision) ⌝ }
     ensures list { λ r. ⌜ Wrote (now (ops .entry)) 0 (onStep state revision .ops) (r .end) (now (ops .exit)) ⌝ }
 {
-    let wakes = state::waking::wake_all();
+    let wakes = slots::waking::wake_all();
     if state.powered {
         return PowerResult {
             answer: PowerAnswer::Powered,
@@ -102,7 +42,7 @@ fn switch_on(ops: &mut [u32], state: State, revision: u32) -> PowerResult
         };
     }
     let a = regs_link::init(ops, 0, revision);
-    let reset = bus_reset(ops, a, state);
+    let reset = reset::bus_reset(ops, a, state);
     let mut s = reset.state;
     s.revision = revision as u8;
     s.powered = true;
@@ -132,9 +72,9 @@ fn switch_off(ops: &mut [u32], state: State) -> PowerResult
     ensures result { λ r. ⌜ r ≡ madeResult (offStep state) ⌝ }
     ensures list { λ r. ⌜ Wrote (now (ops .entry)) 0 (offStep state .ops) (r .end) (now (ops .exit)) ⌝ }
 {
-    let wakes = state::waking::wake_all();
+    let wakes = slots::waking::wake_all();
     let end = shut(ops, state.powered);
-    let mut s = reset_all(state);
+    let mut s = reset::reset_all(state);
     s.powered = false;
     s.has_setup = false; // a SETUP that nobody has fetched
     PowerResult {
@@ -148,7 +88,7 @@ fn switch_off(ops: &mut [u32], state: State) -> PowerResult
 fn refused(refusal: Refusal, state: State) -> PowerResult
     ensures { λ r. ⌜ r ≡ refusedPower refusal state ⌝ }
 {
-    let wakes = state::waking::no_wakes();
+    let wakes = slots::waking::no_wakes();
     PowerResult {
         answer: PowerAnswer::Refused(refusal),
         state: state,

@@ -27,13 +27,13 @@ fn cell(text: &mut [u8], at: usize, n: u32) -> usize
 
 // A value, and nobody to wake.
 pub fn done(value: u32) {
-    let wakes = state::waking::no_wakes();
+    let wakes = slots::waking::no_wakes();
     answer(0, value, wakes);
 }
 
 pub fn refused(refusal: Refusal) {
     let number = state::refusals::refusal_number(refusal);
-    let wakes = state::waking::no_wakes();
+    let wakes = slots::waking::no_wakes();
     answer(number, 0, wakes);
 }
 

@@ -147,7 +147,7 @@ fn poll(world: World) -> World {
 fn reset(list: &mut [u32; 640], world: World) -> World {
     let state = world.state;
     if state.powered {
-        let after = power::bus_reset(list, 0, state);
+        let after = reset::bus_reset(list, 0, state);
         print::operations(list, after.end);
         answers::done(0);
         let left = after.state;

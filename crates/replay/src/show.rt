@@ -17,7 +17,7 @@ pub fn state(world: World) {
     awaits(state);
     let mut i: u8 = 0;
     while i < 16 {
-        let slot = state::slots::slot_at(state, i as usize);
+        let slot = slots::slot_at(state, i as usize);
         slot_line(i, slot);
         i = i + 1;
     }

@@ -2,13 +2,13 @@
 use super::answers;
 use super::world;
 use super::world::World;
+use finish::AbandonAnswer;
+use finish::TakeAnswer;
 use report::Reported;
 use state::Events;
 use state::State;
 use state::Wakes;
-use transfer::AbandonAnswer;
 use transfer::BeginAnswer;
-use transfer::TakeAnswer;
 
 pub fn begin(list: &mut [u32; 640], world: World, line: &[u8]) -> World {
     let incoming = scripts::flag(line, 0);
@@ -35,7 +35,7 @@ pub fn take(world: World, line: &[u8]) -> World {
     let index = scripts::number_up_to(line, 1, 255) as u8;
     let state = world.state;
     let events = world.events;
-    let taken = transfer::take(state, events, index, incoming);
+    let taken = finish::take(state, events, index, incoming);
     let answer = taken.answer;
     let wakes = taken.wakes;
     match answer {
@@ -52,7 +52,7 @@ pub fn abandon(list: &mut [u32; 640], world: World, line: &[u8]) -> World {
     let index = scripts::number_up_to(line, 1, 255) as u8;
     let state = world.state;
     let events = world.events;
-    let abandoned = transfer::abandon(list, state, events, index, incoming);
+    let abandoned = finish::abandon(list, state, events, index, incoming);
     print::operations(list, abandoned.end);
     let answer = abandoned.answer;
     let wakes = abandoned.wakes;
@@ -68,7 +68,7 @@ pub fn abandon(list: &mut [u32; 640], world: World, line: &[u8]) -> World {
 pub fn report(list: &mut [u32; 640], world: World, line: &[u8]) -> World {
     let state = world.state;
     let index = scripts::number_up_to(line, 1, 255) as u8;
-    let data = state::slots::is_data_endpoint(index);
+    let data = slots::is_data_endpoint(index);
     let packets = scripts::number(line, 2);
     let last = scripts::number(line, 3);
     if state.powered & data & (packets < 256) & (last < 65536) {

@@ -1,5 +1,4 @@
 // What a script's calls stand on.
-ghost use mathlib.Core.Path.{_≡_};
 use state::Driver;
 use state::Events;
 use state::State;
@@ -23,25 +22,19 @@ pub fn fresh() -> World {
     }
 }
 
-pub fn with_state(world: World, state: State) -> World
-    ensures { λ r. ⌜ r ≡ record { driver = world .driver; state = state; events = world .events } ⌝ }
-{
+pub fn with_state(world: World, state: State) -> World {
     let mut after = world;
     after.state = state;
     after
 }
 
-pub fn with_driver(world: World, driver: Driver) -> World
-    ensures { λ r. ⌜ r ≡ record { driver = driver; state = world .state; events = world .events } ⌝ }
-{
+pub fn with_driver(world: World, driver: Driver) -> World {
     let mut after = world;
     after.driver = driver;
     after
 }
 
-pub fn with_events(world: World, events: Events) -> World
-    ensures { λ r. ⌜ r ≡ record { driver = world .driver; state = world .state; events = events } ⌝ }
-{
+pub fn with_events(world: World, events: Events) -> World {
     let mut after = world;
     after.events = events;
     after

@@ -13,10 +13,10 @@ use Rattle.state.specs.declared.Transfer.{Transfer}
 use Rattle.state.specs.declared.Slot.{Slot}
 use Rattle.state.specs.declared.State.{State}
 use Rattle.state.specs.declared.Events.{Events}
-use Rattle.state.specs.Slots.{idleb, busyb, slotNumber, withSlot}
+use Rattle.slots.specs.Slots.{idleb, busyb, slotNumber, withSlot}
 use Rattle.state.specs.Fresh.{slotAt}
-use Rattle.state.specs.Each.{and-left, and-right, true-not-false}
-use Rattle.state.specs.Tally.{SameDifference, unmoved-difference, stored-difference}
+use Rattle.slots.specs.Each.{and-left, and-right, true-not-false}
+use Rattle.slots.specs.Tally.{SameDifference, unmoved-difference, stored-difference}
 use Rattle.sound.specs.Clauses.{isIn}
 use Rattle.sound.specs.Sound.{soundb, slotb}
 use Rattle.sound.specs.Facts.{OutFacts, BusyFacts, SlotFacts, slot-facts, Moves, changed-sound, in-slot, one-slot-kept}

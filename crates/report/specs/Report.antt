@@ -9,9 +9,9 @@ use Rattle.state.specs.declared.Phase.the-variants.{Done}
 use Rattle.state.specs.declared.Transfer.{Transfer}
 use Rattle.state.specs.declared.Slot.{Slot}
 use Rattle.state.specs.declared.State.{State}
-use Rattle.state.specs.Slots.{busyb, slotNumber, stateWith, withSlot}
+use Rattle.slots.specs.Slots.{busyb, slotNumber, stateWith, withSlot}
 use Rattle.state.specs.Fresh.{slotAt}
-use Rattle.state.specs.Waking.{addSlot}
+use Rattle.slots.specs.Waking.{addSlot}
 use Rattle.regs_endpoint.specs.Endpoint.{chainAckOps}
 use Rattle.chains.specs.Chains.{chainLimit, slotSize, movedSlot, queuedSlot, queueOps, arrived, inGoesOn, outGoesOn}
 use Rattle.window.specs.Window.{ownWindowOps}

@@ -4,7 +4,7 @@ ghost use Prim.Native.Nat.{_+_, _≤_};
 ghost use lib.ListN.{length};
 ghost use Rattle.ops.specs.Ops.{records};
 ghost use Rattle.ops.specs.Wrote.{Wrote};
-ghost use Rattle.state.specs.Slots.{slotNumber, withSlot};
+ghost use Rattle.slots.specs.Slots.{slotNumber, withSlot};
 ghost use Rattle.report.specs.declared.Step.the-variants.{GoesOn};
 ghost use Rattle.report.specs.Report.{stepOf, inStep, outStep, doneSlot, woken, stateAfter, opsAfter, reportOps, inReportState, inReportOps, outReportState, outReportOps};
 use chains::CHAIN_PACKETS;
@@ -41,7 +41,7 @@ fn in_step(slot: Slot) -> Step
 {
     let phase = slot.phase;
     let transfer = slot.transfer;
-    let busy = state::slots::is_busy(phase);
+    let busy = slots::is_busy(phase);
     let more = chains::in_goes_on(transfer);
     step_of(busy, more, slot)
 }
@@ -52,7 +52,7 @@ fn out_step(slot: Slot, packets: u32, last: u32) -> Step
     let phase = slot.phase;
     let transfer = slot.transfer;
     let m = slot.config.max_packet_size;
-    let busy = state::slots::is_busy(phase);
+    let busy = slots::is_busy(phase);
     let received = chains::after_report(CHAIN_PACKETS, m, transfer, packets, last);
     let more = chains::out_goes_on(m, received, last);
     let counted = chains::moved(slot, phase, received);
@@ -65,8 +65,8 @@ fn complete(state: State, i: usize, slot: Slot) -> State
 {
     let transfer = slot.transfer;
     let done = chains::moved(slot, Phase::Done, transfer);
-    let mut s = state::slots::with_slot(state, i, done);
-    let wake = state::waking::add_slot(state.wake, i);
+    let mut s = slots::with_slot(state, i, done);
+    let wake = slots::waking::add_slot(state.wake, i);
     s.wake = wake;
     s
 }
@@ -84,11 +84,11 @@ fn go_on(
     ensures state { λ r. ⌜ r .state ≡ stateAfter state (slotNumber index incoming) incoming (GoesOn slot) ⌝ }
     ensures list { λ r. ⌜ Wrote (now (ops .entry)) at (opsAfter state index incoming (GoesOn slot)) (r .end) (now (ops .exit)) ⌝ }
 {
-    let i = state::slots::slot_number(index, incoming);
+    let i = slots::slot_number(index, incoming);
     let queued = chains::queue(ops, at, CHAIN_PACKETS, index, incoming, slot);
     let end = window::set_own_window(ops, queued.end, state, index, incoming);
     let next = queued.slot;
-    let s = state::slots::with_slot(state, i, next);
+    let s = slots::with_slot(state, i, next);
     Reported { state: s, end: end }
 }
 
@@ -112,7 +112,7 @@ fn follow(
         },
         Step::GoesOn(slot) => go_on(ops, at, state, index, incoming, slot),
         Step::Completes(slot) => {
-            let i = state::slots::slot_number(index, incoming);
+            let i = slots::slot_number(index, incoming);
             let s = complete(state, i, slot);
             Reported { state: s, end: at }
         }
@@ -142,8 +142,8 @@ pub fn report_in(ops: &mut [u32], at: usize, state: State, index: u8) -> Reporte
     ensures state { λ r. ⌜ r .state ≡ inReportState state index ⌝ }
     ensures list { λ r. ⌜ Wrote (now (ops .entry)) at (inReportOps state index) (r .end) (now (ops .exit)) ⌝ }
 {
-    let i = state::slots::slot_number(index, true);
-    let slot = state::slots::slot_at(state, i);
+    let i = slots::slot_number(index, true);
+    let slot = slots::slot_at(state, i);
     let step = in_step(slot);
     acknowledge(ops, at, state, index, true, step)
 }
@@ -161,8 +161,8 @@ pub fn report_out(
     ensures state { λ r. ⌜ r .state ≡ outReportState state index packets last ⌝ }
     ensures list { λ r. ⌜ Wrote (now (ops .entry)) at (outReportOps state index packets last) (r .end) (now (ops .exit)) ⌝ }
 {
-    let i = state::slots::slot_number(index, false);
-    let slot = state::slots::slot_at(state, i);
+    let i = slots::slot_number(index, false);
+    let slot = slots::slot_at(state, i);
     let step = out_step(slot, packets, last);
     acknowledge(ops, at, state, index, false, step)
 }

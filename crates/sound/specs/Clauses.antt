@@ -10,11 +10,11 @@ use Rattle.state.specs.declared.State.{State}
 use Rattle.state.specs.declared.Awaited.{Awaited}
 use Rattle.state.specs.declared.Events.{Events}
 use Rattle.state.specs.declared.Driver.{Driver}
-use Rattle.state.specs.Slots.{idleb, busyb, slotNumber}
+use Rattle.slots.specs.Slots.{idleb, busyb, slotNumber}
 use Rattle.state.specs.Fresh.{slotAt, allocationAt}
 use Rattle.state.specs.Awaiting.{awaitingb, chainReadingb}
 use Rattle.events.specs.Pending.{eventsSoundb}
-use Rattle.state.specs.Each.{every}
+use Rattle.slots.specs.Each.{every}
 
 -- RAM is 0x200A0000 up to, not including, 0x20180000
 abbrev pub inRam : ℕ → ℕ → Bool

@@ -15,12 +15,12 @@ use Rattle.state.specs.declared.Slot.{Slot}
 use Rattle.state.specs.declared.State.{State}
 use Rattle.state.specs.declared.Events.{Events}
 use Rattle.state.specs.declared.Driver.{Driver}
-use Rattle.state.specs.Slots.{idleb, busyb, slotNumber, withSlot}
-use Rattle.state.specs.Stored.{stored-slot}
+use Rattle.slots.specs.Slots.{idleb, busyb, slotNumber, withSlot}
+use Rattle.slots.specs.Stored.{stored-slot}
 use Rattle.state.specs.Awaiting.{awaitingb, chainReadingb}
 use Rattle.events.specs.Pending.{eventsSoundb}
 use Rattle.state.specs.Fresh.{noConfig, freshSlot, slotAt, allocationAt}
-use Rattle.state.specs.Each.{every-at, every-make, and-left, and-right, and-both, implied, true-not-false}
+use Rattle.slots.specs.Each.{every-at, every-make, and-left, and-right, and-both, implied, true-not-false}
 use Rattle.sound.specs.Clauses.{inRam, aligned, multiple, isIn, ep0}
 use Rattle.sound.specs.Sound.{configb, useb, transferb, outb, busyClausesb, slotb, slot-parts, transfer-busy, transfer-calm, slotsb, ownb, soundb, sound-parts, memoryb, allocationsb, driverSoundb, driver-parts}
 

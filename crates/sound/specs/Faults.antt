@@ -23,7 +23,7 @@ use Rattle.state.specs.declared.Events.{Events}
 use Rattle.state.specs.declared.Allocation.{Allocation}
 use Rattle.state.specs.declared.Driver.{Driver}
 use Rattle.state.specs.Fresh.{noConfig, freshSlot, nothingAwaited, freshState, noAllocation}
-use Rattle.state.specs.Each.{every}
+use Rattle.slots.specs.Each.{every}
 use Rattle.sound.specs.Clauses.{clauses, driverClauses, multiple}
 use Rattle.sound.specs.Sound.{soundb, driverSoundb}
 

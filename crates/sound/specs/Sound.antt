@@ -12,8 +12,8 @@ use Rattle.state.specs.declared.Awaited.{Awaited}
 use Rattle.state.specs.declared.Events.{Events}
 use Rattle.state.specs.declared.Driver.{Driver}
 use Rattle.state.specs.Fresh.{slotAt, allocationAt}
-use Rattle.state.specs.Slots.{busyb}
-use Rattle.state.specs.Each.{every, every-all, all, all-append}
+use Rattle.slots.specs.Slots.{busyb}
+use Rattle.slots.specs.Each.{every, every-all, all, all-append}
 use Rattle.sound.specs.Clauses.{configClauses, useClauses, transferClauses, slotClauses, awaitedClauses, stateClauses, clauses, ofSlots, memoryClauses, ofAllocations, driverClauses, inRam, aligned, multiple, isIn}
 
 unfoldable pub soundb : State → Events → Bool

@@ -13,7 +13,7 @@ use Rattle.state.specs.declared.Check.{Check}
 use Rattle.state.specs.declared.Check.the-variants.{Fits, Refused}
 use Rattle.state.specs.Awaiting.{awaitingb}
 use Rattle.state.specs.Refusals.{firstOf}
-use Rattle.state.specs.Each.{true-not-false}
+use Rattle.slots.specs.Each.{true-not-false}
 use Rattle.sound.specs.Sound.{soundb}
 
 -- 26, then 24

@@ -41,7 +41,7 @@ fn config_sound(i: usize, configured: bool, config: EndpointConfig) -> bool
     ensures { λ r. ⌜ r ≡ configb i configured config ⌝ }
 {
     if configured {
-        let number = state::slots::slot_number(config.index, config.incoming);
+        let number = slots::slot_number(config.index, config.incoming);
         let m = config.max_packet_size as u32;
         let address = config.buffer.address;
         let size = config.buffer.size;
@@ -62,7 +62,7 @@ fn use_sound(powered: bool, i: usize, x: Slot) -> bool
         return true;
     }
     let phase = x.phase;
-    let idle = state::slots::is_idle(phase);
+    let idle = slots::is_idle(phase);
     (!x.enabled | x.configured) & ((idle | powered) & ((idle | x.enabled) & (idle | !x.stalled)))
 }
 
@@ -97,7 +97,7 @@ fn transfer_sound(i: usize, x: Slot) -> bool
     }
     let within = x.transfer.progress <= x.transfer.length;
     let phase = x.phase;
-    let busy = state::slots::is_busy(phase);
+    let busy = slots::is_busy(phase);
     if busy {
         return within & busy_sound(i, x);
     }

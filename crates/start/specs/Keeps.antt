@@ -13,10 +13,10 @@ use Rattle.state.specs.declared.Driver.{Driver}
 use Rattle.state.specs.declared.Check.{Check}
 use Rattle.state.specs.declared.Check.the-variants.{Fits, Refused}
 use Rattle.state.specs.Fresh.{freshSlot, slotAt, allocationAt}
-use Rattle.state.specs.Tally.{KeepsAccount, reset-keeps, unmoved}
+use Rattle.slots.specs.Tally.{KeepsAccount, reset-keeps, unmoved}
 use Rattle.state.specs.Awaiting.{awaitingb}
 use Rattle.state.specs.Refusals.{none-due, not-due}
-use Rattle.state.specs.Each.{and-left, and-right, changed-at}
+use Rattle.slots.specs.Each.{and-left, and-right, changed-at}
 use Rattle.events.specs.Pending.{power}
 use Rattle.sound.specs.Clauses.{ep0, inRam}
 use Rattle.sound.specs.Sound.{soundb, slotb, slot-parts, useb, configb, transferb, ownb, driverSoundb}

@@ -15,12 +15,12 @@ use Rattle.state.specs.declared.Refusal.{Refusal}
 use Rattle.state.specs.declared.Refusal.the-variants.{Unsound, OutOfTurn, ControlPacketSize}
 use Rattle.state.specs.declared.Check.{Check}
 use Rattle.state.specs.declared.Check.the-variants.{Fits, Refused}
-use Rattle.state.specs.Slots.{resetSlot, stateWith, withSlots, change-none-of, change-next-of}
+use Rattle.slots.specs.Slots.{resetSlot, stateWith, withSlots, change-none-of, change-next-of}
 use Rattle.state.specs.Fresh.{slotAt, allocationAt}
 use Rattle.state.specs.Numbers.{refusalNumber, checkNumber}
 use Rattle.state.specs.Awaiting.{awaitingb}
 use Rattle.state.specs.Refusals.{Due, _if_, firstDue, Bound, bound}
-use Rattle.state.specs.Each.{change}
+use Rattle.slots.specs.Each.{change}
 use Rattle.events.specs.Pending.{power}
 use Rattle.sound.specs.Sound.{soundb, driverSoundb}
 use Rattle.start.specs.declared.StartAnswer.{StartAnswer}

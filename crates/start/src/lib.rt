@@ -2,7 +2,7 @@
 ghost use mathlib.Core.Path.{_≡_};
 ghost use Prim.Native.Nat.{_<_};
 ghost use Rattle.state.specs.Numbers.{checkNumber};
-ghost use Rattle.state.specs.Slots.{withSlots};
+ghost use Rattle.slots.specs.Slots.{withSlots};
 ghost use Rattle.start.specs.Start.{configuredSlot, startedSlot, startedSlots, startCheck, startResult, startNumber};
 use state::Allocation;
 use state::Check;
@@ -47,7 +47,7 @@ fn start_slot(driver: Driver, i: usize, slot: Slot) -> Slot
     requires { ⌜ i < 16 ⌝ }
     ensures { λ r. ⌜ r ≡ startedSlot driver i slot ⌝ }
 {
-    let forgotten = state::slots::reset(slot, 2 <= i, false);
+    let forgotten = slots::reset(slot, 2 <= i, false);
     let allocation = driver.endpoints[i];
     configure(forgotten, allocation)
 }

@@ -1,9 +1,4 @@
-pub mod Slots
-pub mod Stored
-pub mod Tally
 pub mod Fresh
 pub mod Numbers
 pub mod Refusals
 pub mod Awaiting
-pub mod Each
-pub mod Waking

@@ -4,8 +4,6 @@
 pub mod fresh;
 pub mod readings;
 pub mod refusals;
-pub mod slots;
-pub mod waking;
 
 pub const EP0_SIZE: u32 = 512;
 

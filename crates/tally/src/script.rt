@@ -99,7 +99,7 @@ fn small(list: &mut [u32; 640], state: State, events: Events) -> State {
 
 // A bus reset cuts what slots 2 and 3 have in hand; slot 5 begins anew.
 fn reset(list: &mut [u32; 640], state: State, events: Events) -> State {
-    let after = power::bus_reset(list, 0, state);
+    let after = reset::bus_reset(list, 0, state);
     let s = after.state;
     let a = enabled(list, s, events, 2, true, true);
     begun(list, a, events, 2, true, 100)
@@ -148,7 +148,7 @@ fn begun(
 }
 
 fn taken(state: State, events: Events, index: u8, incoming: bool) -> State {
-    let take = transfer::take(state, events, index, incoming);
+    let take = finish::take(state, events, index, incoming);
     take.state
 }
 
@@ -159,7 +159,7 @@ fn abandoned(
     index: u8,
     incoming: bool,
 ) -> State {
-    let given_up = transfer::abandon(list, state, events, index, incoming);
+    let given_up = finish::abandon(list, state, events, index, incoming);
     given_up.state
 }
 

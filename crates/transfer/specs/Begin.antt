@@ -15,7 +15,7 @@ use Rattle.state.specs.declared.Events.{Events}
 use Rattle.state.specs.declared.Refusal.the-variants.{ListTooShort, Unsound, OutOfTurn, NoDataEndpoint, Disabled, InHand, UnfitBuffer}
 use Rattle.state.specs.declared.Check.{Check}
 use Rattle.state.specs.declared.Check.the-variants.{Fits, Refused}
-use Rattle.state.specs.Slots.{idleb, slotNumber, dataEndpoint, withSlot}
+use Rattle.slots.specs.Slots.{idleb, slotNumber, dataEndpoint, withSlot}
 use Rattle.state.specs.Fresh.{slotAt}
 use Rattle.state.specs.Numbers.{refusalNumber, checkNumber}
 use Rattle.state.specs.Awaiting.{awaitingb}

@@ -1,4 +1,2 @@
 pub mod Begin
-pub mod Take
-pub mod Abandon
 pub mod Keeps

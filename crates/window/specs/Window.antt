@@ -10,9 +10,9 @@ use native.Mathlib.Omega.{arith}
 use Rattle.ops.specs.Ops.{Op, flat, records}
 use Rattle.ops.specs.Sequence.{upTo, upTo-most}
 use Rattle.state.specs.declared.State.{State}
-use Rattle.state.specs.Slots.{idleb, busyb, slotNumber}
+use Rattle.slots.specs.Slots.{idleb, busyb, slotNumber}
 use Rattle.state.specs.Fresh.{slotAt}
-use Rattle.state.specs.Each.{count}
+use Rattle.slots.specs.Each.{count}
 use Rattle.regs_endpoint.specs.Endpoint.{windowOps}
 
 -- how many of the first n data slots aren't idle; there are 14, from slot 2 on

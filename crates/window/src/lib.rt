@@ -20,7 +20,7 @@ fn in_hand(state: State) -> u32
         let i = n + 2;
         let x = state.endpoints[i];
         let phase = x.phase;
-        let idle = state::slots::is_idle(phase);
+        let idle = slots::is_idle(phase);
         count = count + !idle as u32;
         n = n + 1;
     }
@@ -56,10 +56,10 @@ pub fn set_windows(ops: &mut [u32], at: usize, state: State) -> usize
     let mut k: u8 = 0;
     while k < 7 {
         let index = k + 1;
-        let i = state::slots::slot_number(index, false);
+        let i = slots::slot_number(index, false);
         let x = state.endpoints[i];
         let phase = x.phase;
-        let busy = state::slots::is_busy(phase);
+        let busy = slots::is_busy(phase);
         a = window_at(ops, a, busy, window, index);
         k = index;
     }

@@ -4,7 +4,7 @@ use native.Mathlib.Omega.{arith}
 use Prim.Native.Nat.{_<_}
 use Rattle.allocate.specs.Allocate.{placed}
 use Rattle.allocate.specs.Rules.{available, lowest-most}
-use Rattle.state.specs.Slots.{bit-small}
+use Rattle.slots.specs.Slots.{bit-small}
 use Rattle.allocate.proofs.place.Statement.{statement}
 use Rattle.allocate.proofs.place.Tie as tie
 

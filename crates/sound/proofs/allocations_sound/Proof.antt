@@ -3,7 +3,7 @@ use borrow.Author.Needs.{needs}
 use native.Mathlib.Omega.{arith}
 use mathlib.Core.Path.{_≡_}
 use Prim.Native.Nat.{_≤_, _-_}
-use Rattle.state.specs.Each.{every-none, every-step}
+use Rattle.slots.specs.Each.{every-none, every-step}
 use Rattle.sound.specs.Sound.{allocationsb}
 use Rattle.sound.proofs.allocations_sound.Statement.{statement}
 use Rattle.sound.proofs.allocations_sound.Tie as tie

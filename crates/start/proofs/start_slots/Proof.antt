@@ -4,7 +4,7 @@ use native.Mathlib.Omega.{arith}
 use mathlib.Core.Path.{_≡_, sym}
 use Prim.Native.Nat.{_≤_, _-_}
 use Rattle.start.specs.Start.{startedSlots, started-none, started-next}
-use Rattle.state.specs.Slots.{withSlots}
+use Rattle.slots.specs.Slots.{withSlots}
 use Rattle.start.proofs.start_slots.Statement.{statement}
 use Rattle.start.proofs.start_slots.Tie as tie
 

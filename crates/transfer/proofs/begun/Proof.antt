@@ -3,7 +3,7 @@ use borrow.Author.Needs.{needs}
 use native.Mathlib.Omega.{arith}
 use Rattle.ops.specs.Wrote.{same, _▹_}
 use mathlib.Core.Path.{_≡_, refl}
-use Rattle.state.specs.Slots.{slotNumber}
+use Rattle.slots.specs.Slots.{slotNumber}
 use Rattle.transfer.specs.Begin.{begunAt, piece}
 use Rattle.window.specs.Window.{windows-room}
 use Rattle.transfer.proofs.begun.Statement.{statement}

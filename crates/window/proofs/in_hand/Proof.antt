@@ -1,11 +1,11 @@
 -- `in_hand`: the slots so far that aren't idle. Assumes nothing.
 use borrow.Author.Needs.{needs}
-use Rattle.state.specs.Slots.{bit-small}
+use Rattle.slots.specs.Slots.{bit-small}
 use native.Mathlib.Omega.{arith}
 use mathlib.Core.Path.{_≡_}
 use Prim.Native.Nat.{_≤_, _-_}
 use mathlib.Core.Bool.{not}
-use Rattle.state.specs.Each.{count-none, count-step}
+use Rattle.slots.specs.Each.{count-none, count-step}
 use Rattle.window.specs.Window.{inHandCount}
 use Rattle.window.proofs.in_hand.Statement.{statement}
 use Rattle.window.proofs.in_hand.Tie as tie

@@ -1,0 +1,2 @@
+pub mod Reset
+pub mod Keeps

@@ -1,0 +1,5 @@
+pub mod Slots
+pub mod Stored
+pub mod Tally
+pub mod Each
+pub mod Waking
