@@ -299,7 +299,8 @@ fn a_reading(random: &mut Random, word: &str, asked: &[usize], quiet: bool, size
         "message_word" => {
             let word = random.below(1 << 32);
             // Type 0 and each subtype are favoured.
-            vec![if random.one_in(4) { word } else { word & !0x1ff | random.below(16) << 5 }]
+            let subtype = if random.one_in(3) { random.below(16) } else { random.one_of(&[1, 1, 2, 4, 5, 6]) };
+            vec![if random.one_in(4) { word } else { word & !0x1ff | subtype << 5 }]
         }
         "transfer_status" => {
             let mut numbers: Vec<usize> = (0..9).map(|_| flag(random, 3)).collect();
@@ -387,6 +388,59 @@ fn conversation(random: &mut Random, asked: &[usize], sizes: &[usize; 16], scrip
     }
 }
 
+/// The link goes from state to state, each told by an interrupt of its own, so that suspend, resume
+/// and what the first U0 means come after each other.
+fn link_walk(random: &mut Random, script: &mut Script) {
+    for _ in 0..2 + random.below(6) {
+        // Lost terminations alone, a change of state alone, or both.
+        let (changed, lost) = [(1, 0), (1, 0), (1, 0), (0, 1), (1, 1)][random.below(5)];
+        let state = random.one_of(&[1, 2, 2, 4, 4, 4, 5, 6, 7, 7, 7]);
+        script.push("interrupt".into());
+        while let Some(awaited) = script.calls.awaited() {
+            script.push(match awaited {
+                "link_flags" => joined(awaited, &[0, 0, 0, changed, 0, lost, 0]),
+                "link_status" => joined(awaited, &[state, flag(random, 4), 0]),
+                _ => a_reading(random, awaited, &[], true, 64),
+            });
+        }
+        match random.below(8) {
+            0..=3 => script.push("poll".into()),
+            4 => script.push("wakeup".into()),
+            5 => script.push("state".into()),
+            6 if script.calls.powered() && random.one_in(3) => {
+                script.push("off".into());
+                script.push("wakeup".into());
+            }
+            _ => {}
+        }
+    }
+}
+
+/// Orders on one slot after each other, and what they left; at the end it is mostly fit.
+fn orders(random: &mut Random, incoming: usize, endpoint: usize, script: &mut Script) {
+    for _ in 0..1 + random.below(5) {
+        let order = if random.one_in(4) { "enable" } else { "stall" };
+        script.push(joined(order, &[incoming, endpoint, random.below(2)]));
+        let left = if endpoint != 0 && random.one_in(3) { "enabled" } else { "stalled" };
+        if random.one_in(2) {
+            let asked = if random.one_in(4) { 1 - incoming } else { incoming };
+            script.push(joined(left, &[asked, endpoint]));
+        }
+    }
+    if !random.one_in(4) {
+        script.push(joined("enable", &[incoming, endpoint, 1]));
+    }
+}
+
+/// Mostly about 3, where the silicon changes.
+fn a_revision(random: &mut Random) -> usize {
+    if random.one_in(3) {
+        random.below(16)
+    } else {
+        random.one_of(&[0, 1, 2, 2, 3, 3, 3, 4, 15])
+    }
+}
+
 /// An interrupt that reports EP0, or ends the status stage, with no link flag.
 fn ep0_report(random: &mut Random, incoming: bool, script: &mut Script) {
     let status = usize::from(incoming && random.one_in(2));
@@ -411,6 +465,8 @@ fn lent(random: &mut Random, length: usize, memory: (usize, usize)) -> usize {
     let address = match random.below(8) {
         0 => outside,
         1 => ram::END + random.below(400_000),
+        // What is left of it may lie in the RAM, and aligned.
+        2 if random.one_in(2) => (ram::START - random.below(length + 1)) & !3,
         2 => ram::START - random.below(length + 1),
         3 => ram::END - random.below(length + 1),
         4 => place(random, length + 3) + 1 + random.below(3),
@@ -427,9 +483,10 @@ fn lent(random: &mut Random, length: usize, memory: (usize, usize)) -> usize {
 /// A call of EP0, mostly of the generation that stands.
 fn control(random: &mut Random, script: &mut Script) {
     let current = script.calls.control().1;
-    let generation = match random.below(12) {
+    let generation = match random.below(16) {
         0 => current.wrapping_sub(1),
         1 => current.wrapping_add(1),
+        2 => current ^ [1 << 8, 1 << 16, 1 << 31][random.below(3)],
         _ => current,
     };
     let first = random.below(2);
@@ -469,20 +526,33 @@ fn control(random: &mut Random, script: &mut Script) {
     script.push(line);
 }
 
-/// A send or receive, or its next piece.
+/// A send or receive, or some of its next pieces.
 fn moving(random: &mut Random, incoming: usize, endpoint: usize, size: usize, script: &mut Script) {
     let slot = 2 * endpoint + incoming;
-    let pattern = random.below(256);
-    if let Some((Some(asked), position)) = script.calls.in_hand(slot) {
-        if script.calls.powered() && !random.one_in(4) {
-            let last = if random.one_in(6) { random.below(size + 1) } else { size };
-            script.push(joined("report", &[incoming, endpoint, random.one_of(&[1, 2, 255, 255]), last]));
+    let in_hand = |script: &Script| script.calls.in_hand(slot).is_some_and(|hand| hand.0.is_some());
+    if !in_hand(script) {
+        begin_moving(random, incoming, endpoint, size, script);
+        if random.one_in(3) {
+            return;
+        }
+    }
+    for _ in 0..1 + random.below(6) {
+        let Some((Some(asked), position)) = script.calls.in_hand(slot) else {
+            return;
+        };
+        if script.calls.powered() && !random.one_in(6) {
+            let last = if random.one_in(8) { random.below(size + 1) } else { size };
+            script.push(joined("report", &[incoming, endpoint, random.one_of(&[0, 1, 2, 255, 255]), last]));
         }
         let numbers = [asked.single.into(), asked.address as usize, asked.length as usize, asked.flag.into()];
-        let place = [pattern, position as usize];
+        let place = [random.below(256), position as usize];
         script.push(joined("next", &[&[incoming, endpoint], &numbers[..], &place[..]].concat()));
-        return;
     }
+}
+
+fn begin_moving(random: &mut Random, incoming: usize, endpoint: usize, size: usize, script: &mut Script) {
+    let slot = 2 * endpoint + incoming;
+    let pattern = random.below(256);
     let single = random.below(2);
     if !script.calls.holds(slot) && single == 1 && incoming == 1 {
         return;
@@ -496,6 +566,25 @@ fn moving(random: &mut Random, incoming: usize, endpoint: usize, size: usize, sc
     };
     let address = lent(random, length, script.memory);
     script.push(joined("move", &[incoming, endpoint, single, address, length, random.below(2), pattern]));
+}
+
+/// An allocation that is right but for one thing, while there is room.
+fn one_wrong(random: &mut Random) -> String {
+    let incoming = random.below(2);
+    let kind = 1 + random.below(3);
+    let size = if kind == 2 { 1024 } else { random.one_of(&[1, 64, 1024]) };
+    let mut numbers = [incoming, 0, incoming, 1 + random.below(7), kind, size, 1, 0, 0, 0];
+    match random.below(8) {
+        0 => (numbers[4], numbers[5]) = (0, random.one_of(&[8, 64, 512, 512, 1024])),
+        1 => (numbers[4], numbers[5]) = (2, random.one_of(&[0, 512, 512, 1025, 2048, 1024 + 16384, 1024 + 16384])),
+        2 => (numbers[4], numbers[5]) = (random.one_of(&[1, 3]), random.one_of(&[0, 0, 1025, 1025, 2048, 65535])),
+        3 => (numbers[4], numbers[6]) = (random.one_of(&[1, 3]), 0),
+        4 => numbers[7] = random.one_of(&[16, 16, 17, 255]),
+        5 => numbers[random.one_of(&[8, 9])] = random.one_of(&[1, 2, 255]),
+        6 => (numbers[1], numbers[2]) = (1, 1 - incoming),
+        _ => (numbers[1], numbers[3]) = (1, random.one_of(&[0, 8, 9, 15])),
+    }
+    joined("allocate", &numbers)
 }
 
 /// A driver whose memory ends about where its last buffer does; it isn't started.
@@ -521,7 +610,12 @@ fn life(random: &mut Random, count: usize, script: &mut Script) {
         let (start, end) = (ram::START, ram::END);
         let near = [start - 4, start - 1, start, start + 1, start + 3, end - 515, end - 512, end - 1, end, end + 4];
         let memory = random.one_of(&near);
-        let capacity = random.one_of(&[0, 1, 511, 512, 513, 514, 515, 516, end - start, end - start + 1]);
+        let capacity = match random.below(3) {
+            // About what EP0 takes, or about all that is left.
+            0 => 511 + memory.next_multiple_of(4) - memory + random.below(2),
+            1 => (end + random.below(3)).saturating_sub(memory + 1),
+            _ => random.one_of(&[0, 1, 511, 512, 513, 514, 515, 516, end - start, end - start + 1]),
+        };
         script.push(format!("driver\t{memory}\t{capacity}"));
     }
     if random.one_in(2) {
@@ -533,6 +627,9 @@ fn life(random: &mut Random, count: usize, script: &mut Script) {
     let capacity = (515 + random.below(room)).min(ram::END - memory);
     script.memory = (memory, capacity);
     script.push(format!("driver\t{memory}\t{capacity}"));
+    for _ in 0..random.below(12) {
+        script.push(one_wrong(random));
+    }
     let mut sizes = [0usize; 16];
     for _ in 0..4 + random.below(36) {
         let incoming = random.below(2);
@@ -546,7 +643,7 @@ fn life(random: &mut Random, count: usize, script: &mut Script) {
         let wanted = if random.one_in(8) { 1 - incoming } else { incoming };
         let endpoint = if random.one_in(10) { random.below(16) } else { 1 + random.below(7) };
         let interval = if random.one_in(10) { 0 } else { 1 + random.below(255) };
-        let burst = if random.one_in(3) { random.below(18) } else { 0 };
+        let burst = if random.one_in(2) { random.one_of(&[1, 1, 2, 2, 3, 7, 14, 15, 16, 255]) } else { 0 };
         let streams = usize::from(random.one_in(20));
         let mult = usize::from(random.one_in(20));
         script.push(format!(
@@ -569,8 +666,11 @@ fn life(random: &mut Random, count: usize, script: &mut Script) {
         script.push(format!("start\t{}", random.one_of(&[0, 8, 64, 511, 513, 1024, 65535])));
     }
     script.push("start\t512".into());
-    if all {
-        // So that it wraps, and that a life doesn't hang on those before it.
+    if random.one_in(2) {
+        script.push("state".into());
+    }
+    if all && !random.one_in(3) {
+        // So that it wraps.
         let near = [0, u32::MAX as usize, u32::MAX as usize - 1, u32::MAX as usize - 5, 1 << 31];
         script.push(format!("generation\t{}", random.one_of(&near)));
     }
@@ -591,8 +691,22 @@ fn life(random: &mut Random, count: usize, script: &mut Script) {
         let data = (1..8).contains(&endpoint);
         let size = if data { sizes[2 * endpoint + incoming].max(1) } else { 64 };
         let powered = script.calls.powered();
+        if !powered && random.one_in(4) {
+            orders(random, incoming, endpoint, script);
+        }
+        if all && !powered && random.one_in(2) {
+            control(random, script);
+        }
+        // Power comes back with the generation of a stage that was dropped.
+        let stage = script.calls.stage_in_hand(random.one_in(2)).filter(|_| all && !powered && random.one_in(3));
+        if let Some((generation, _)) = stage {
+            script.push(format!("generation\t{}", generation.wrapping_sub(1)));
+            script.push(format!("on\t{}", a_revision(random)));
+            control(random, script);
+            continue;
+        }
         if !powered && random.one_in(3) {
-            script.push(format!("on\t{}", random.below(16)));
+            script.push(format!("on\t{}", a_revision(random)));
             for slot in 2..16 {
                 if !random.one_in(4) {
                     script.push(format!("enable\t{}\t{}\t1", slot % 2, slot / 2));
@@ -604,13 +718,30 @@ fn life(random: &mut Random, count: usize, script: &mut Script) {
             script.push(refused_driver(random));
         }
         if all {
-            match random.below(8) {
+            match random.below(11) {
                 0 | 1 => {
                     conversation(random, &asked, &sizes, script);
                     continue;
                 }
+                8 if random.one_in(4) => {
+                    link_walk(random, script);
+                    continue;
+                }
+                9 if random.one_in(4) => {
+                    // Where something is in hand, if there is such a slot, and often done.
+                    let in_hand = asked.iter().find(|slot| script.calls.in_hand(**slot).is_some());
+                    let slot = *in_hand.unwrap_or(&(2 * endpoint.min(7) + incoming));
+                    if powered && in_hand.is_some() && random.one_in(2) {
+                        script.push(joined("report", &[slot % 2, slot / 2, 1, 0]));
+                    }
+                    orders(random, slot % 2, slot / 2, script);
+                    continue;
+                }
                 2 | 6 => {
-                    control(random, script);
+                    // Some after each other, before a reset ends the transfer.
+                    for _ in 0..1 + random.below(4) {
+                        control(random, script);
+                    }
                     continue;
                 }
                 3..=5 if data => {
@@ -663,7 +794,17 @@ fn life(random: &mut Random, count: usize, script: &mut Script) {
                 format!("report\t{incoming}\t{endpoint}\t{packets}\t{last}")
             }
             65..=79 => format!("take\t{incoming}\t{endpoint}"),
-            80..=83 => format!("abandon\t{incoming}\t{endpoint}"),
+            80..=83 => {
+                // Often what is done.
+                if powered && data && random.one_in(2) {
+                    script.push(joined("report", &[incoming, endpoint, 1, 0]));
+                }
+                format!("abandon\t{incoming}\t{endpoint}")
+            }
+            84..=87 if random.one_in(2) => {
+                orders(random, incoming, endpoint, script);
+                continue;
+            }
             84..=87 => format!("stall\t{incoming}\t{endpoint}\t{}", random.below(2)),
             88..=93 => format!("enable\t{incoming}\t{endpoint}\t{on}"),
             94 if endpoint != 0 && random.one_in(2) => format!("enabled\t{incoming}\t{endpoint}"),
@@ -672,8 +813,11 @@ fn life(random: &mut Random, count: usize, script: &mut Script) {
             96 if random.one_in(3) => format!("on\t{}", random.below(18)),
             97 => "state".into(),
             98 => {
-                for _ in 0..random.below(4) {
+                for _ in 0..random.below(6) {
                     script.push(format!("raise\t{}", an_event(random)));
+                }
+                for _ in 0..random.below(3) {
+                    script.push("poll".into());
                 }
                 "poll".into()
             }
@@ -696,6 +840,17 @@ fn life(random: &mut Random, count: usize, script: &mut Script) {
         if let Some(left) = left.filter(|_| random.one_in(2)) {
             script.push(joined(left, &[incoming, endpoint]));
         }
+    }
+    // What the next driver finds: slots still to be woken, an address that waits, a suspended link.
+    match random.below(4) {
+        0 if script.calls.powered() => script.push("reset".into()),
+        0 => script.push(format!("on\t{}", a_revision(random))),
+        1 if all => {
+            let generation = script.calls.control().1;
+            script.push(format!("accept_address\t{generation}\t{}", 1 + random.below(127)));
+        }
+        2 if all => link_walk(random, script),
+        _ => {}
     }
     script.push("off".into());
     script.push("state".into());
