@@ -2,7 +2,8 @@
 //! Arguments: the repository, a seed, how many calls, and parts of the names of edits to try, where
 //! not all are to be tried. `rt` stops a program that prints over a mebibyte.
 //! The mistakes are the must-fail edits of code that `replay` stands on. Each copy is compiled
-//! without proof by `rt try` and runs a random script; the Rust's answers are its stored output.
+//! without proof by `rt try` and runs a random script, and where that tells nothing the stored
+//! one; the Rust's answers are what it has to print.
 use std::collections::BTreeMap;
 use std::io::Write;
 use std::path::{Path, PathBuf};
@@ -118,8 +119,14 @@ fn main() -> ExitCode {
     let place = env::temp_dir().join(format!("planted-{}", std::process::id()));
     copy(&root.join("crates"), &place.join("crates"));
     fs::copy(root.join("crates.txt"), place.join("crates.txt")).unwrap();
-    fs::write(place.join("crates").join(PROGRAM).join("stdin"), script).unwrap();
-    fs::write(place.join("crates").join(PROGRAM).join("stdout"), answers).unwrap();
+    let own = place.join("crates").join(PROGRAM);
+    let stored = ["stdin", "stdout"].map(|name| fs::read(own.join(name)).unwrap());
+    let random = [script, answers];
+    let set = |[stdin, stdout]: &[Vec<u8>; 2]| {
+        fs::write(own.join("stdin"), stdin).unwrap();
+        fs::write(own.join("stdout"), stdout).unwrap();
+    };
+    set(&random);
     assert_eq!(verdict(&place), "missed", "without a mistake the program has to be right");
     let mut counts: BTreeMap<&str, usize> = BTreeMap::new();
     let edits = reached(root, PROGRAM).into_iter().flat_map(|name| edits(root, &name));
@@ -128,7 +135,14 @@ fn main() -> ExitCode {
         let right = fs::read_to_string(&file).unwrap();
         assert_eq!(right.matches(&edit.old).count(), 1, "{}", edit.name);
         fs::write(&file, right.replacen(&edit.old, &edit.new, 1)).unwrap();
-        let verdict = verdict(&place);
+        let mut verdict = self::verdict(&place);
+        if verdict == "missed" {
+            set(&stored);
+            if self::verdict(&place) == "found" {
+                verdict = "found by the stored script";
+            }
+            set(&random);
+        }
         fs::write(&file, right).unwrap();
         println!("{verdict}\t{}", edit.name);
         *counts.entry(verdict).or_default() += 1;
