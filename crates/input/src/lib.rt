@@ -96,6 +96,7 @@ fn last_line(held: usize) -> Next
 
 // Leaves out what comes up to the next line feed.
 fn too_long(buffer: &mut [u8]) -> Next
+    requires { ⌜ 0 < length (now buffer) ⌝ }
     ensures { λ r. ⌜ r .start ≡ 0 ⌝ }
     ensures { λ r. ⌜ r .stop ≡ 0 ⌝ }
 {
@@ -108,7 +109,9 @@ fn too_long(buffer: &mut [u8]) -> Next
     }
 }
 
-fn skip(buffer: &mut [u8]) -> Reader {
+fn skip(buffer: &mut [u8]) -> Reader
+    requires { ⌜ 0 < length (now buffer) ⌝ }
+{
     let mut turns = u64::MAX;
     while 0 < turns {
         let end = fill(buffer, 0);
@@ -127,9 +130,9 @@ fn skip(buffer: &mut [u8]) -> Reader {
     at_start()
 }
 
-// Reads into the buffer behind what is held: where that ends now.
+// Reads into the buffer behind what is held: where that ends now. A read without room would pass for the input's end.
 fn fill(buffer: &mut [u8], held: usize) -> usize
-    requires { ⌜ held ≤ length (now buffer) ⌝ }
+    requires { ⌜ held < length (now buffer) ⌝ }
     ensures { λ r. ⌜ held ≤ r ⌝ }
     ensures { λ r. ⌜ r ≤ length (now (buffer .exit)) ⌝ }
 {

@@ -3,8 +3,6 @@ use super::answers;
 use super::endpoints;
 use super::show;
 use super::transfers;
-use super::world;
-use super::world::World;
 use allocate::NewAnswer;
 use events::PollAnswer;
 use events::RaiseAnswer;
@@ -12,6 +10,7 @@ use power::PowerAnswer;
 use power::PowerResult;
 use scripts::Word;
 use start::StartAnswer;
+use world::World;
 
 pub fn call(list: &mut [u32; 640], world: World, line: &[u8]) -> World {
     let word = scripts::read_call(line);

@@ -1,14 +1,13 @@
 // Allocation, and the orders of an endpoint. A number too large for its type becomes the largest where that is refused
 // or ignored all the same.
 use super::answers;
-use super::world;
-use super::world::World;
 use allocate::AllocateAnswer;
 use orders::OrderAnswer;
 use orders::OrderResult;
 use orders::QueryAnswer;
 use state::EndpointRequest;
 use state::EndpointType;
+use world::World;
 
 pub fn allocate(world: World, line: &[u8]) -> World {
     let fits = can_be_asked(line);

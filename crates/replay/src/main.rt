@@ -5,7 +5,6 @@ mod endpoints;
 mod run;
 mod show;
 mod transfers;
-mod world;
 
 fn main() {
     run::script();

@@ -1,9 +1,8 @@
 // Line after line, through one buffer and one list.
 use super::answers;
 use super::calls;
-use super::world;
-use super::world::World;
 use input::Found;
+use world::World;
 
 // The turns are counted down, so that the loop ends whatever the input does.
 pub fn script() {

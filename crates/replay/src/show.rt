@@ -1,5 +1,4 @@
 // The whole state, in the lines of docs/REPLAY.md.
-use super::world::World;
 use libc::STDOUT_FILENO;
 use state::Awaiting;
 use state::EndpointConfig;
@@ -8,6 +7,7 @@ use state::Phase;
 use state::Setup;
 use state::Slot;
 use state::State;
+use world::World;
 
 pub fn state(world: World) {
     let state = world.state;

@@ -1,7 +1,5 @@
 // Transfers: begin, take, abandon, and the report of a chain.
 use super::answers;
-use super::world;
-use super::world::World;
 use finish::AbandonAnswer;
 use finish::TakeAnswer;
 use report::Reported;
@@ -9,6 +7,7 @@ use state::Events;
 use state::State;
 use state::Wakes;
 use transfer::BeginAnswer;
+use world::World;
 
 pub fn begin(list: &mut [u32; 640], world: World, line: &[u8]) -> World {
     let incoming = scripts::flag(line, 0);
