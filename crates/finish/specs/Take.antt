@@ -1,7 +1,9 @@
 -- Taking a transfer's result (reference: the polling of `run` in endpoint.rs).
 -- Assumes nothing.
-use Prim.Native.Nat.{ℕ, _+_, _%_, _^_}
+use Prim.Native.Nat.{ℕ, _+_, _%_, _^_, _≤_}
 use mathlib.Core.Path.{_≡_, refl}
+use native.Mathlib.Omega.{arith}
+use lib.ListN.{length}
 use mathlib.Core.Bool.{Bool, true, false, not}
 use mathlib.Core.List.{List, [], _∷_}
 use Rattle.state.specs.declared.Phase.the-variants.{Idle}
@@ -12,15 +14,18 @@ use Rattle.state.specs.declared.Refusal.the-variants.{Unsound, OutOfTurn, NoDat
 use Rattle.state.specs.declared.Check.{Check}
 use Rattle.state.specs.declared.Check.the-variants.{Fits, Refused}
 use Rattle.slots.specs.Slots.{idleb, busyb, slotNumber, dataEndpoint, withSlot}
-use Rattle.state.specs.Fresh.{slotAt}
+use Rattle.state.specs.Fresh.{freshSlot, slotAt}
+use Rattle.slots.specs.Each.{set-own, set-past}
 use Rattle.state.specs.Numbers.{refusalNumber}
 use Rattle.state.specs.Awaiting.{awaitingb}
 use Rattle.state.specs.Refusals.{Due, _if_, firstDue, Bound, bound}
 use Rattle.slots.specs.Waking.{noWakes}
 use Rattle.sound.specs.Sound.{soundb}
+use Rattle.sound.specs.Turn.{turnOf}
 use Rattle.finish.specs.declared.TakeAnswer.{TakeAnswer}
 use Rattle.finish.specs.declared.TakeAnswer.the-variants as take
 use Rattle.finish.specs.declared.TakeResult.{TakeResult}
+use Rattle.finish.specs.declared.Took.{Took}
 
 -- 7 and 22, of a slot that is idle or not
 abbrev pub waitingDues : ℕ → Bool → List Due
@@ -63,6 +68,27 @@ abbrev pub takeAt : Check → State → ℕ → Slot → TakeResult
 takeAt Fits s i x = takeOf (busyb (x .phase)) s i x
 takeAt (Refused r) s i x = record { answer = take.Refused r; state = s; wakes = noWakes }
 
+-- the same of a slot by itself: what is said of it, and what becomes of it
+abbrev pub tookOf : Bool → Slot → Took
+tookOf true x = record { answer = take.Busy; slot = x }
+tookOf false x = record { answer = take.Taken (x .transfer .progress); slot = takenSlot x }
+
+abbrev pub tookAt : Check → Slot → Took
+tookAt Fits x = tookOf (busyb (x .phase)) x
+tookAt (Refused r) x = record { answer = take.Refused r; slot = x }
+
+abbrev pub tookResult : State → ℕ → Took → TakeResult
+tookResult s i t = record { answer = t .answer; state = withSlot s i (t .slot); wakes = noWakes }
+
+-- a slot that is taken where it lies
+pub took-stored : (c : Check) (s : State) (i : ℕ) → tookResult s i (tookAt c (slotAt s i)) ≡ takeAt c s i (slotAt s i)
+took-stored (Refused r) s i = rw (set-own (s .endpoints) i freshSlot)
+took-stored Fits s i = of (busyb (slotAt s i .phase))
+  where
+    of : (b : Bool) → tookResult s i (tookOf b (slotAt s i)) ≡ takeOf b s i (slotAt s i)
+    of true = rw (set-own (s .endpoints) i freshSlot)
+    of false = refl
+
 unfoldable pub takeResult : State → Events → ℕ → Bool → TakeResult
 takeResult s v e incoming = takeAt (takeCheck s v e incoming) s (slotNumber e incoming) (slotAt s (slotNumber e incoming))
 
@@ -101,6 +127,16 @@ take-told r s v e incoming q = (q, rw q (take-numbers s v e incoming))
 pub take-bound : (s : State) (v : Events) (e : ℕ) (incoming : Bool) → Bound (takeDues s v e incoming) (takeCheck s v e incoming)
 unfolding takeCheck
 take-bound s v e incoming = bound (takeDues s v e incoming)
+
+-- a take, of the slot where it lies
+pub took-take : (s : State) (v : Events) (e : ℕ) (incoming : Bool) (i : ℕ) (t : Took) → i ≡ slotNumber e incoming
+    → t ≡ tookAt (turnOf (soundb s v) (s .awaited .next) (firstDue (waitingDues e (idleb (slotAt s i .phase))))) (slotAt s i) → tookResult s i t ≡ takeResult s v e incoming
+unfolding takeResult takeCheck
+took-take s v e incoming i t h q = rw (q, h) (took-stored (takeCheck s v e incoming) s (slotNumber e incoming))
+
+-- past the sixteen slots nothing is stored
+pub took-nothing : (s : State) (i : ℕ) (t : Took) → length (s .endpoints) ≡ 16 → 16 ≤ i → record { answer = t .answer; state = s; wakes = noWakes } ≡ tookResult s i t
+took-nothing s i t h b = rw (set-past (s .endpoints) i (t .slot) (omega (arith, h, b)))
 
 -- what a take comes to, by what its tests come to: a refused one leaves the state as it was
 pub take-at : (s : State) (v : Events) (e : ℕ) (incoming : Bool) (c : Check) → takeCheck s v e incoming ≡ c

@@ -6,12 +6,13 @@ ghost use Rattle.ops.specs.Ops.{records};
 ghost use Rattle.ops.specs.Wrote.{Wrote};
 ghost use Rattle.state.specs.Refusals.{firstDue};
 ghost use Rattle.state.specs.declared.Check.the-variants.{Fits};
-ghost use Rattle.slots.specs.Slots.{slotNumber};
+ghost use Rattle.slots.specs.Slots.{idleb, slotNumber};
 ghost use Rattle.state.specs.Fresh.{slotAt};
 ghost use Rattle.slots.specs.Waking.{noWakes};
-ghost use Rattle.sound.specs.Turn.{inTurn};
-ghost use Rattle.finish.specs.Take.{waitingDues, takenSlot, takeAt, takeResult, takeNumbers, takeSays};
+ghost use Rattle.sound.specs.Turn.{turnOf};
+ghost use Rattle.finish.specs.Take.{waitingDues, takenSlot, tookAt, takeResult, takeNumbers, takeSays};
 ghost use Rattle.finish.specs.Abandon.{settleTime, abandonCheck, abandonAnswerAt, abandonStateAt, abandonOpsAt, abandonAnswer, abandonState, abandonOps, abandonNumbers, abandonSays};
+use state::Awaited;
 use state::Check;
 use state::Events;
 use state::Phase;
@@ -33,6 +34,11 @@ pub struct TakeResult {
     pub wakes: Wakes,
 }
 
+struct Took {
+    answer: TakeAnswer,
+    slot: Slot,
+}
+
 // `Abandoned` has the microseconds that the endpoint is to be left alone.
 pub enum AbandonAnswer {
     Refused(Refusal),
@@ -44,15 +50,6 @@ pub struct AbandonResult {
     pub state: State,
     pub end: usize,
     pub wakes: Wakes,
-}
-
-fn take_check(state: State, events: Events, index: u8, idle: bool) -> Check
-    ensures { λ r. ⌜ r ≡ inTurn state events (firstDue (waitingDues index idle)) ⌝ }
-{
-    let data = slots::is_data_endpoint(index);
-    let waiting = state::refusals::first(idle, Refusal::Disabled, Check::Fits);
-    let further = state::refusals::first(!data, Refusal::NoDataEndpoint, waiting);
-    sound::in_turn(state, events, further)
 }
 
 // The slot with its transfer finished.
@@ -79,25 +76,35 @@ fn taken_slot(slot: Slot) -> Slot
     }
 }
 
-fn taken(state: State, i: usize, slot: Slot) -> TakeResult
-    ensures { λ r. ⌜ r ≡ takeAt Fits state i slot ⌝ }
+// What a take says of a slot, and leaves of it.
+fn take_slot(good: bool, awaited: Awaited, index: u8, slot: Slot) -> Took
+    ensures { λ r. ⌜ r ≡ tookAt (turnOf good (awaited .next) (firstDue (waitingDues index (idleb (slot .phase))))) slot ⌝ }
 {
     let phase = slot.phase;
-    let busy = slots::is_busy(phase);
-    let wakes = slots::waking::no_wakes();
-    if busy {
-        return TakeResult {
-            answer: TakeAnswer::Busy,
-            state: state,
-            wakes: wakes,
-        };
-    }
-    let y = taken_slot(slot);
-    let s = slots::with_slot(state, i, y);
-    TakeResult {
-        answer: TakeAnswer::Taken(slot.transfer.progress),
-        state: s,
-        wakes: wakes,
+    let idle = slots::is_idle(phase);
+    let data = slots::is_data_endpoint(index);
+    let waiting = state::refusals::first(idle, Refusal::Disabled, Check::Fits);
+    let further = state::refusals::first(!data, Refusal::NoDataEndpoint, waiting);
+    let check = sound::turn_of(good, awaited, further);
+    match check {
+        Check::Fits => {
+            let busy = slots::is_busy(phase);
+            if busy {
+                return Took {
+                    answer: TakeAnswer::Busy,
+                    slot: slot,
+                };
+            }
+            let y = taken_slot(slot);
+            Took {
+                answer: TakeAnswer::Taken(slot.transfer.progress),
+                slot: y,
+            }
+        }
+        Check::Refused(refusal) => Took {
+            answer: TakeAnswer::Refused(refusal),
+            slot: slot,
+        },
     }
 }
 
@@ -106,21 +113,30 @@ pub fn take(state: State, events: Events, index: u8, incoming: bool) -> TakeResu
     ensures result { λ r. ⌜ r ≡ takeResult state events index incoming ⌝ }
     ensures numbers { λ r. ⌜ takeNumbers (r .answer) ≡ takeSays state events index incoming ⌝ }
 {
+    let mut s = state;
+    let good = sound::sound(s, events);
+    let awaited = s.awaited;
+    let wakes = slots::waking::no_wakes();
     let i = slots::slot_number(index, incoming);
-    let slot = slots::slot_at(state, i);
-    let phase = slot.phase;
-    let idle = slots::is_idle(phase);
-    let check = take_check(state, events, index, idle);
-    match check {
-        Check::Fits => taken(state, i, slot),
-        Check::Refused(refusal) => {
-            let wakes = slots::waking::no_wakes();
-            TakeResult {
-                answer: TakeAnswer::Refused(refusal),
-                state: state,
-                wakes: wakes,
-            }
-        }
+    if i < 16 {
+        let slot = s.endpoints[i];
+        let t = take_slot(good, awaited, index, slot);
+        let y = t.slot;
+        let answer = t.answer;
+        s.endpoints[i] = y;
+        return TakeResult {
+            answer: answer,
+            state: s,
+            wakes: wakes,
+        };
+    }
+    let none = state::fresh::fresh_slot();
+    let t = take_slot(good, awaited, index, none);
+    let answer = t.answer;
+    TakeResult {
+        answer: answer,
+        state: s,
+        wakes: wakes,
     }
 }
 

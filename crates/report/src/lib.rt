@@ -4,9 +4,9 @@ ghost use Prim.Native.Nat.{_+_, _≤_};
 ghost use lib.ListN.{length};
 ghost use Rattle.ops.specs.Ops.{records};
 ghost use Rattle.ops.specs.Wrote.{Wrote};
-ghost use Rattle.slots.specs.Slots.{slotNumber, withSlot};
+ghost use Rattle.chains.specs.Chains.{chainLimit, queuedSlot};
 ghost use Rattle.report.specs.declared.Step.the-variants.{GoesOn};
-ghost use Rattle.report.specs.Report.{stepOf, inStep, outStep, doneSlot, woken, stateAfter, opsAfter, reportOps, inReportState, inReportOps, outReportState, outReportOps};
+ghost use Rattle.report.specs.Report.{stepOf, inStep, outStep, slotAfter, wakeAfter, listAfter, inReportState, inReportOps, outReportState, outReportOps};
 use chains::CHAIN_PACKETS;
 use state::Phase;
 use state::Slot;
@@ -17,6 +17,13 @@ pub enum Step {
     Ignored,
     GoesOn(Slot),
     Completes(Slot),
+}
+
+// What a report leaves of its slot, the slots to wake, and where the list ends.
+pub struct Followed {
+    pub slot: Slot,
+    pub wake: u16,
+    pub end: usize,
 }
 
 pub struct Reported {
@@ -59,93 +66,94 @@ fn out_step(slot: Slot, packets: u32, last: u32) -> Step
     step_of(busy, more, counted)
 }
 
-// A transfer that is done wakes its slot when the interrupt ends.
-fn complete(state: State, i: usize, slot: Slot) -> State
-    ensures { λ r. ⌜ r ≡ woken (withSlot state i (doneSlot slot)) i ⌝ }
-{
-    let transfer = slot.transfer;
-    let done = chains::moved(slot, Phase::Done, transfer);
-    let mut s = slots::with_slot(state, i, done);
-    let wake = slots::waking::add_slot(state.wake, i);
-    s.wake = wake;
-    s
-}
-
 // The next chain, and behind it the window of an OUT endpoint.
 fn go_on(
     ops: &mut [u32],
     at: usize,
-    state: State,
+    window: u32,
     index: u8,
     incoming: bool,
+    wake: u16,
     slot: Slot,
-) -> Reported
+) -> Followed
     requires { ⌜ at + records 6 ≤ length (now ops) ⌝ }
-    ensures state { λ r. ⌜ r .state ≡ stateAfter state (slotNumber index incoming) incoming (GoesOn slot) ⌝ }
-    ensures list { λ r. ⌜ Wrote (now (ops .entry)) at (opsAfter state index incoming (GoesOn slot)) (r .end) (now (ops .exit)) ⌝ }
+    ensures slot { λ r. ⌜ r .slot ≡ queuedSlot chainLimit incoming slot ⌝ }
+    ensures wake { λ r. ⌜ r .wake ≡ wake ⌝ }
+    ensures list { λ r. ⌜ Wrote (now (ops .entry)) at (listAfter window index incoming (GoesOn slot)) (r .end) (now (ops .exit)) ⌝ }
 {
-    let i = slots::slot_number(index, incoming);
     let queued = chains::queue(ops, at, CHAIN_PACKETS, index, incoming, slot);
-    let end = window::set_own_window(ops, queued.end, state, index, incoming);
     let next = queued.slot;
-    let s = slots::with_slot(state, i, next);
-    Reported { state: s, end: end }
+    if incoming {
+        return Followed {
+            slot: next,
+            wake: wake,
+            end: queued.end,
+        };
+    }
+    let end = regs_endpoint::set_out_window(ops, queued.end, index as u32, window);
+    Followed {
+        slot: next,
+        wake: wake,
+        end: end,
+    }
 }
 
-// The next chain, or the end of the transfer, or nothing.
+// The next chain, or the end of the transfer, which wakes slot i when the interrupt ends, or nothing.
 fn follow(
     ops: &mut [u32],
     at: usize,
-    state: State,
+    window: u32,
     index: u8,
     incoming: bool,
+    i: usize,
+    wake: u16,
+    slot: Slot,
     step: Step,
-) -> Reported
+) -> Followed
     requires { ⌜ at + records 6 ≤ length (now ops) ⌝ }
-    ensures state { λ r. ⌜ r .state ≡ stateAfter state (slotNumber index incoming) incoming step ⌝ }
-    ensures list { λ r. ⌜ Wrote (now (ops .entry)) at (opsAfter state index incoming step) (r .end) (now (ops .exit)) ⌝ }
+    ensures slot { λ r. ⌜ r .slot ≡ slotAfter incoming slot step ⌝ }
+    ensures wake { λ r. ⌜ r .wake ≡ wakeAfter wake i step ⌝ }
+    ensures list { λ r. ⌜ Wrote (now (ops .entry)) at (listAfter window index incoming step) (r .end) (now (ops .exit)) ⌝ }
 {
     match step {
-        Step::Ignored => Reported {
-            state: state,
+        Step::Ignored => Followed {
+            slot: slot,
+            wake: wake,
             end: at,
         },
-        Step::GoesOn(slot) => go_on(ops, at, state, index, incoming, slot),
-        Step::Completes(slot) => {
-            let i = slots::slot_number(index, incoming);
-            let s = complete(state, i, slot);
-            Reported { state: s, end: at }
+        Step::GoesOn(counted) => go_on(ops, at, window, index, incoming, wake, counted),
+        Step::Completes(counted) => {
+            let transfer = counted.transfer;
+            let done = chains::moved(counted, Phase::Done, transfer);
+            let more = slots::waking::add_slot(wake, i);
+            Followed {
+                slot: done,
+                wake: more,
+                end: at,
+            }
         }
     }
 }
 
-// The chain's flag is acknowledged, then follows what the step asks for.
-fn acknowledge(
-    ops: &mut [u32],
-    at: usize,
-    state: State,
-    index: u8,
-    incoming: bool,
-    step: Step,
-) -> Reported
-    requires { ⌜ at + records 7 ≤ length (now ops) ⌝ }
-    ensures state { λ r. ⌜ r .state ≡ stateAfter state (slotNumber index incoming) incoming step ⌝ }
-    ensures list { λ r. ⌜ Wrote (now (ops .entry)) at (reportOps state index incoming step) (r .end) (now (ops .exit)) ⌝ }
-{
-    let a = regs_endpoint::chain_ack(ops, at, index as u32, incoming);
-    follow(ops, a, state, index, incoming, step)
-}
-
-// The end of an IN chain.
+// The end of an IN chain: its flag is acknowledged, then follows what the step asks for.
 pub fn report_in(ops: &mut [u32], at: usize, state: State, index: u8) -> Reported
     requires { ⌜ at + records 7 ≤ length (now ops) ⌝ }
     ensures state { λ r. ⌜ r .state ≡ inReportState state index ⌝ }
     ensures list { λ r. ⌜ Wrote (now (ops .entry)) at (inReportOps state index) (r .end) (now (ops .exit)) ⌝ }
 {
+    let mut s = state;
     let i = slots::slot_number(index, true);
-    let slot = slots::slot_at(state, i);
-    let step = in_step(slot);
-    acknowledge(ops, at, state, index, true, step)
+    let mut end = regs_endpoint::chain_ack(ops, at, index as u32, true);
+    if i < 16 {
+        let slot = s.endpoints[i];
+        let step = in_step(slot);
+        let f = follow(ops, end, 0, index, true, i, s.wake, slot, step);
+        let y = f.slot;
+        s.endpoints[i] = y;
+        s.wake = f.wake;
+        end = f.end;
+    }
+    Reported { state: s, end: end }
 }
 
 // The end of an OUT chain: so many packets, the last of them `last` bytes long.
@@ -161,8 +169,28 @@ pub fn report_out(
     ensures state { λ r. ⌜ r .state ≡ outReportState state index packets last ⌝ }
     ensures list { λ r. ⌜ Wrote (now (ops .entry)) at (outReportOps state index packets last) (r .end) (now (ops .exit)) ⌝ }
 {
+    let mut s = state;
+    let mut count: u32 = 0;
+    let mut n: usize = 0;
+    while n < 14 {
+        let k = n + 2;
+        let x = s.endpoints[k];
+        let phase = x.phase;
+        let idle = slots::is_idle(phase);
+        count = count + !idle as u32;
+        n = n + 1;
+    }
+    let window = window::window_of(count);
     let i = slots::slot_number(index, false);
-    let slot = slots::slot_at(state, i);
-    let step = out_step(slot, packets, last);
-    acknowledge(ops, at, state, index, false, step)
+    let mut end = regs_endpoint::chain_ack(ops, at, index as u32, false);
+    if i < 16 {
+        let slot = s.endpoints[i];
+        let step = out_step(slot, packets, last);
+        let f = follow(ops, end, window, index, false, i, s.wake, slot, step);
+        let y = f.slot;
+        s.endpoints[i] = y;
+        s.wake = f.wake;
+        end = f.end;
+    }
+    Reported { state: s, end: end }
 }

@@ -168,3 +168,9 @@ changed-at P f n l i d h there past = go (ltb i (length l)) refl
         let b : length l ≤ i = ltb-false _ _ e in
         let c : length (change f n l) ≤ i = rw (change-length 0 f n l) b in
         rw (List·getD-eq-default (change f n l) d c) (past (List·getD-eq-default l d b))
+
+-- an entry stored where it came from changes nothing
+pub set-own : {A : Type 0} (l : List A) (i : ℕ) (d : A) → set l i (getD l i d) ≡ l
+set-own [] i d = refl
+set-own (x ∷ l) zero d = refl
+set-own (x ∷ l) (suc i) d = ap (λ t. x ∷ t) (set-own l i d)

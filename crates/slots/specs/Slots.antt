@@ -6,7 +6,7 @@ use mathlib.Core.Bool.{Bool, true, false, _&&_, not}
 use mathlib.Core.List.{List}
 use mathlib.Core.Path.{_≡_}
 use lib.Dec.{leb}
-use lib.ListN.{set}
+use lib.ListN.{length, set, List·getD-eq-default}
 use Rattle.ops.specs.Ops.{bit}
 use Rattle.state.specs.declared.Phase.{Phase}
 use Rattle.state.specs.declared.Phase.the-variants.{Idle, Busy, Done}
@@ -88,6 +88,10 @@ withSlots s slots = stateWith s slots (s .«ep0_address») (s .powered) (s .«ha
 -- with one other slot
 abbrev pub withSlot : State → ℕ → Slot → State
 withSlot s i x = withSlots s (set (s .endpoints) i x)
+
+-- past the sixteen slots stands a fresh one
+pub no-slot : (s : State) (i : ℕ) → length (s .endpoints) ≡ 16 → 16 ≤ i → slotAt s i ≡ freshSlot
+no-slot s i h b = List·getD-eq-default (s .endpoints) freshSlot (omega (arith, h, b))
 
 -- a loop over the slots: none is changed yet, and one more is
 pub change-none-of : (f : ℕ → Slot → Slot) (s : State) → withSlots s (change f 0 (s .endpoints)) ≡ s

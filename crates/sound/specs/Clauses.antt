@@ -27,6 +27,9 @@ aligned address = eqb (address % 4) 0
 abbrev pub multiple : ℕ → ℕ → Bool
 multiple n m = ltb 0 m && eqb (n % m) 0
 
+abbrev pub packetSize : ℕ → Bool
+packetSize m = leb 1 m && leb m 1024
+
 -- slots 0 and 1 are endpoint 0's, the others are data slots; those of OUT have even numbers
 abbrev pub ep0 : ℕ → Bool
 ep0 i = ltb i 2
@@ -40,7 +43,7 @@ configClauses =
     -- a configuration naming another slot
     (λ i configured k. not configured || eqb (slotNumber (k .index) (k .incoming)) i)
     -- M outside 1–1024
-    ∷ (λ i configured k. not configured || (leb 1 (k .«max_packet_size») && leb (k .«max_packet_size») 1024))
+    ∷ (λ i configured k. not configured || packetSize (k .«max_packet_size»))
     -- own buffer outside RAM
     ∷ (λ i configured k. not configured || inRam (k .buffer .address) (k .buffer .size))
     -- own buffer unaligned

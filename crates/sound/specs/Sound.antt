@@ -1,7 +1,10 @@
 -- What 26 doesn't refuse: every clause is met.
 -- Assumes nothing.
-use Prim.Native.Nat.{ℕ}
-use mathlib.Core.Bool.{Bool, true, false, _&&_, _||_, not, and-true}
+use Prim.Native.Nat.{ℕ, _+_, _*_, _%_, _<_, _≤_}
+use native.Mathlib.Nat.{mod-self, mul-mod-left, mul-le-mul-right}
+use native.Mathlib.Omega.{arith}
+use borrow.Author.Tests.{eq-eqb}
+use mathlib.Core.Bool.{Bool, true, false, _&&_, _||_, not, and-true, and-false}
 use lib.Dec.{eqb, leb, ltb}
 use mathlib.Core.List.{_++_, map}
 use mathlib.Core.Path.{_≡_, refl, ap, sym, _∙_}
@@ -12,9 +15,10 @@ use Rattle.state.specs.declared.Awaited.{Awaited}
 use Rattle.state.specs.declared.Events.{Events}
 use Rattle.state.specs.declared.Driver.{Driver}
 use Rattle.state.specs.Fresh.{slotAt, allocationAt}
-use Rattle.slots.specs.Slots.{busyb}
-use Rattle.slots.specs.Each.{every, every-all, all, all-append}
-use Rattle.sound.specs.Clauses.{configClauses, useClauses, transferClauses, slotClauses, awaitedClauses, stateClauses, clauses, ofSlots, memoryClauses, ofAllocations, driverClauses, inRam, aligned, multiple, isIn}
+use Rattle.state.specs.declared.Phase.the-variants.{Idle, Busy, Done}
+use Rattle.slots.specs.Slots.{idleb, busyb, slotNumber}
+use Rattle.slots.specs.Each.{every, every-all, every-at, all, all-append, true-not-false}
+use Rattle.sound.specs.Clauses.{configClauses, useClauses, transferClauses, slotClauses, awaitedClauses, stateClauses, clauses, ofSlots, memoryClauses, ofAllocations, driverClauses, inRam, aligned, multiple, packetSize, isIn}
 
 unfoldable pub soundb : State → Events → Bool
 soundb s e = all (clauses s e)
@@ -60,6 +64,42 @@ slotsb s n = every (λ i. slotb (s .powered) i (slotAt s i)) n
 unfoldable pub allocationsb : Driver → ℕ → Bool
 allocationsb d n = every (λ i. configb i (allocationAt d i .configured) (allocationAt d i .config)) n
 
+-- a buffer for one packet, or for a burst of b + 1, holds whole ones
+whole : (n m : ℕ) → n % m ≡ 0 → ltb 0 m ≡ multiple n m
+whole n m h = rw (eq-eqb (n % m) 0 h) (sym (and-true (ltb 0 m)))
+
+pub whole-packet : (n m : ℕ) → n ≡ m → ltb 0 m ≡ multiple n m
+whole-packet n m h = whole n m (rw h (mod-self m))
+
+pub whole-burst : (n m b : ℕ) → n ≡ (b + 1) * m → ltb 0 m ≡ multiple n m
+whole-burst n m b h = whole n m (rw h (mul-mod-left (b + 1) m))
+
+pub burst-fits : (m b : ℕ) → m < 65536 → b < 256 → (b + 1) * m < 4294967296
+burst-fits m b h k =
+    let most : (b + 1) * m ≤ 256 * m = mul-le-mul-right m (omega (arith, k)) in
+    omega (arith, most, h)
+
+-- a configuration whose other clauses are met is sound where its buffer holds whole packets
+last-clause : (a b c d w : Bool) → ((a && (b && (c && d))) && w) ≡ (a && (b && (c && ((d && w) && true))))
+last-clause true true true d w = sym (and-true (d && w))
+last-clause true true false d w = refl
+last-clause true false c d w = refl
+last-clause false b c d w = refl
+
+pub config-last : (i : ℕ) (k : EndpointConfig) (inside even t : Bool) → eqb (slotNumber (k .index) (k .incoming)) i ≡ true
+    → inside ≡ inRam (k .buffer .address) (k .buffer .size) → even ≡ aligned (k .buffer .address)
+    → (packetSize (k .«max_packet_size») && (inside && (even && ltb 0 (k .buffer .size)))) ≡ t
+    → (t && multiple (k .buffer .size) (k .«max_packet_size»)) ≡ configb i true k
+unfolding configb
+config-last i k inside even t n e f h =
+    rw (← h, n, e, f)
+    (last-clause
+    (packetSize (k .«max_packet_size»))
+    (inRam (k .buffer .address) (k .buffer .size))
+    (aligned (k .buffer .address))
+    (ltb 0 (k .buffer .size))
+    (multiple (k .buffer .size) (k .«max_packet_size»)))
+
 -- a slot is sound where its use, its configuration and its transfer are
 pub slot-parts : (p : Bool) (i : ℕ) (x : Slot) → ((useb p i x && configb i (x .configured) (x .config)) && transferb i x) ≡ slotb p i x
 unfolding useb configb transferb slotb
@@ -88,6 +128,72 @@ pub transfer-calm : (i : ℕ) (x : Slot) → ltb i 2 ≡ false → busyb (x .pha
 unfolding transferb
 transfer-calm i x h b = rw (h, b, and-true (leb (x .transfer .progress) (x .transfer .length)))
 
+-- what a slot is by its ways out: a wrong configuration,
+pub slot-unconfigured : (p : Bool) (i : ℕ) (x : Slot) → configb i (x .configured) (x .config) ≡ false → false ≡ slotb p i x
+slot-unconfigured p i x h = rw (h, and-false (useb p i x)) at (slot-parts p i x)
+
+-- endpoint 0, which has nothing else to meet,
+use-ep0 : (p : Bool) (i : ℕ) (x : Slot) → ltb i 2 ≡ true → useb p i x ≡ true
+unfolding useb
+use-ep0 p i x e = rw e
+
+transfer-ep0 : (i : ℕ) (x : Slot) → ltb i 2 ≡ true → transferb i x ≡ true
+unfolding transferb
+transfer-ep0 i x e = rw e
+
+pub slot-ep0 : (p : Bool) (i : ℕ) (x : Slot) → configb i (x .configured) (x .config) ≡ true → ltb i 2 ≡ true → true ≡ slotb p i x
+slot-ep0 p i x h e = rw (h, use-ep0 p i x e, transfer-ep0 i x e) at (slot-parts p i x)
+
+-- a transfer past its end,
+transfer-over : (i : ℕ) (x : Slot) → ltb i 2 ≡ false → leb (x .transfer .progress) (x .transfer .length) ≡ false → transferb i x ≡ false
+unfolding transferb
+transfer-over i x d l = rw (d, l)
+
+pub slot-over : (p : Bool) (i : ℕ) (x : Slot) → ltb i 2 ≡ false → leb (x .transfer .progress) (x .transfer .length) ≡ false → false ≡ slotb p i x
+slot-over p i x d l = rw (transfer-over i x d l, and-false (useb p i x && configb i (x .configured) (x .config))) at (slot-parts p i x)
+
+-- and a data slot that is none of these, by its phase
+abbrev pub ready : Bool → Slot → Bool
+ready p x = (p && x .enabled) && (x .configured && not (x .stalled))
+
+in-hand : (p e k q : Bool) → ((not e || k) && (p && (e && (q && true)))) ≡ ((p && e) && (k && q))
+in-hand true true true q = and-true q
+in-hand true true false q = refl
+in-hand true false k q = refl
+in-hand false true true q = refl
+in-hand false true false q = refl
+in-hand false false k q = refl
+
+use-idle : (p : Bool) (i : ℕ) (x : Slot) → ltb i 2 ≡ false → idleb (x .phase) ≡ true → (not (x .enabled) || x .configured) ≡ useb p i x
+unfolding useb
+use-idle p i x d q = rw (d, q, and-true (not (x .enabled) || x .configured))
+
+use-in-hand : (p : Bool) (i : ℕ) (x : Slot) → ltb i 2 ≡ false → idleb (x .phase) ≡ false → ready p x ≡ useb p i x
+unfolding useb
+use-in-hand p i x d q = rw (d, q) (sym (in-hand p (x .enabled) (x .configured) _))
+
+-- the rest of a data slot whose configuration is sound and whose transfer isn't past its end
+module _ (p : Bool) (i : ℕ) (x : Slot) (h : configb i (x .configured) (x .config) ≡ true) (d : ltb i 2 ≡ false) (l : leb (x .transfer .progress) (x .transfer .length) ≡ true) where
+  calm-slot : (u : Bool) → u ≡ useb p i x → busyb (x .phase) ≡ false → u ≡ slotb p i x
+  calm-slot u e b = sym (and-true u) ∙ sym (and-true (u && true)) ∙ (rw (← e, h, sym (transfer-calm i x d b) ∙ l) at (slot-parts p i x))
+
+  pub slot-idle : x .phase ≡ Idle → (not (x .enabled) || x .configured) ≡ slotb p i x
+  slot-idle q = calm-slot (not (x .enabled) || x .configured) (use-idle p i x d (ap idleb q)) (ap busyb q)
+
+  pub slot-done : x .phase ≡ Done → ready p x ≡ slotb p i x
+  slot-done q = calm-slot (ready p x) (use-in-hand p i x d (ap idleb q)) (ap busyb q)
+
+  busy-slot : (t : Bool) → x .phase ≡ Busy → ready p x ≡ t → (t && busyClausesb i x) ≡ slotb p i x
+  busy-slot t q r =
+      ap (λ (u : Bool). u && busyClausesb i x) (sym (and-true t))
+      ∙ (rw (← use-in-hand p i x d (ap idleb q), r, h, ← transfer-busy i x d (ap busyb q), l) at (slot-parts p i x))
+
+  pub slot-busy : x .phase ≡ Busy → ready p x ≡ true → busyClausesb i x ≡ slotb p i x
+  slot-busy q r = busy-slot true q r
+
+  pub slot-unready : x .phase ≡ Busy → ready p x ≡ false → false ≡ slotb p i x
+  slot-unready q r = busy-slot false q r
+
 -- clauses by slots are slots by clauses
 pub sound-parts : (s : State) (e : Events) → (slotsb s 16 && ownb s e) ≡ soundb s e
 unfolding soundb slotsb slotb ownb
@@ -95,6 +201,21 @@ sound-parts s e =
     sym
     (all-append (map (ofSlots s) (slotClauses (s .powered))) (stateClauses s e)
     ∙ ap (λ (b : Bool). b && ownb s e) (sym (every-all (map (λ (c : ℕ → Slot → Bool) i. c i (slotAt s i)) (slotClauses (s .powered))) 16)))
+
+-- a state is unsound where one slot is, or what is its own
+slots-bad : (s : State) (i : ℕ) → i < 16 → slotb (s .powered) i (slotAt s i) ≡ false → (t : Bool) → slotsb s 16 ≡ t → t ≡ false
+unfolding slotsb
+slots-bad s i b h false q = refl
+slots-bad s i b h true q = absurd (true-not-false (sym (every-at (λ j. slotb (s .powered) j (slotAt s j)) 16 i q b) ∙ h))
+
+pub sound-bad-slot : (s : State) (e : Events) (i : ℕ) → i < 16 → slotb (s .powered) i (slotAt s i) ≡ false → false ≡ soundb s e
+sound-bad-slot s e i b h = rw (slots-bad s i b h (slotsb s 16) refl) at (sound-parts s e)
+
+pub sound-bad-own : (s : State) (e : Events) → ownb s e ≡ false → false ≡ soundb s e
+sound-bad-own s e h = rw (h, and-false (slotsb s 16)) at (sound-parts s e)
+
+pub sound-all : (s : State) (e : Events) → slotsb s 16 ≡ true → ownb s e ≡ true → true ≡ soundb s e
+sound-all s e h o = rw (h, o) at (sound-parts s e)
 
 pub driver-parts : (d : Driver) → (allocationsb d 16 && memoryb (d .memory) (d .capacity) (d .used)) ≡ driverSoundb d
 unfolding driverSoundb allocationsb configb memoryb

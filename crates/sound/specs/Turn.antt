@@ -5,6 +5,7 @@ use mathlib.Core.Bool.{Bool, true, false, not}
 use mathlib.Core.Path.{_≡_, refl, ap}
 use borrow.Author.Tests.{ltb-false}
 use lib.Dec.{ltb}
+use Rattle.state.specs.declared.Awaiting.{Awaiting}
 use Rattle.state.specs.declared.State.{State}
 use Rattle.state.specs.declared.Events.{Events}
 use Rattle.state.specs.declared.Refusal.{Refusal}
@@ -17,8 +18,11 @@ use Rattle.slots.specs.Each.{true-not-false}
 use Rattle.sound.specs.Sound.{soundb}
 
 -- 26, then 24
+abbrev pub turnOf : Bool → Awaiting → Check → Check
+turnOf good next further = firstOf (not good) Unsound (firstOf (awaitingb next) OutOfTurn further)
+
 abbrev pub inTurn : State → Events → Check → Check
-inTurn s v further = firstOf (not (soundb s v)) Unsound (firstOf (awaitingb (s .awaited .next)) OutOfTurn further)
+inTurn s v further = turnOf (soundb s v) (s .awaited .next) further
 
 -- 10, of a list with room for so many numbers, before them
 abbrev pub admitted : ℕ → State → Events → Check → Check

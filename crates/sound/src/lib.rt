@@ -1,13 +1,14 @@
 // Whether a state is sound (refusal 26). Each call that gets one asks it.
 ghost use mathlib.Core.Path.{_≡_};
 ghost use Rattle.sound.specs.Clauses.{inRam, aligned, multiple};
-ghost use Rattle.sound.specs.Sound.{soundb, driverSoundb, configb, useb, transferb, outb, busyClausesb, slotb, awaitedb, ownb, memoryb, slotsb, allocationsb};
-ghost use Rattle.sound.specs.Turn.{inTurn, admitted};
+ghost use Rattle.sound.specs.Sound.{soundb, driverSoundb, configb, outb, busyClausesb, slotb, awaitedb, ownb, memoryb, allocationsb};
+ghost use Rattle.sound.specs.Turn.{turnOf, inTurn, admitted};
 use state::Awaited;
 use state::Check;
 use state::Driver;
 use state::EndpointConfig;
 use state::Events;
+use state::Phase;
 use state::Refusal;
 use state::Slot;
 use state::State;
@@ -36,34 +37,40 @@ pub fn is_multiple(n: u32, m: u32) -> bool
     false
 }
 
+// The same of a buffer and packets of m bytes, with no division where it holds one packet, or one burst.
+fn whole_packets(size: u32, m: u16, burst: u8) -> bool
+    ensures { λ r. ⌜ r ≡ multiple size m ⌝ }
+{
+    let n = m as u32;
+    if size == n {
+        return 0 < n;
+    }
+    let most = (burst as u32 + 1) * n;
+    if size == most {
+        return 0 < n;
+    }
+    is_multiple(size, n)
+}
+
 // A configuration of slot i, where there is one.
 fn config_sound(i: usize, configured: bool, config: EndpointConfig) -> bool
     ensures { λ r. ⌜ r ≡ configb i configured config ⌝ }
 {
     if configured {
         let number = slots::slot_number(config.index, config.incoming);
-        let m = config.max_packet_size as u32;
-        let address = config.buffer.address;
-        let size = config.buffer.size;
-        let inside = in_ram(address, size);
-        let even = is_aligned(address);
-        let whole = is_multiple(size, m);
-        return (number == i)
-            & (((1 <= m) & (m <= 1024)) & (inside & (even & ((0 < size) & whole))));
+        if number == i {
+            let m = config.max_packet_size;
+            let address = config.buffer.address;
+            let size = config.buffer.size;
+            let inside = in_ram(address, size);
+            let even = is_aligned(address);
+            if ((1 <= m) & (m <= 1024)) & (inside & (even & (0 < size))) {
+                return whole_packets(size, m, config.max_burst);
+            }
+        }
+        return false;
     }
     true
-}
-
-// How a data slot is used: only an enabled one that isn't stalled has a transfer, and only while powered.
-fn use_sound(powered: bool, i: usize, x: Slot) -> bool
-    ensures { λ r. ⌜ r ≡ useb powered i x ⌝ }
-{
-    if i < 2 {
-        return true;
-    }
-    let phase = x.phase;
-    let idle = slots::is_idle(phase);
-    (!x.enabled | x.configured) & ((idle | powered) & ((idle | x.enabled) & (idle | !x.stalled)))
 }
 
 // A busy OUT transfer ends at whole packets and has some to come.
@@ -88,44 +95,32 @@ fn busy_sound(i: usize, x: Slot) -> bool
     inside & (even & out)
 }
 
-// The transfer of a data slot.
-fn transfer_sound(i: usize, x: Slot) -> bool
-    ensures { λ r. ⌜ r ≡ transferb i x ⌝ }
-{
-    if i < 2 {
-        return true;
-    }
-    let within = x.transfer.progress <= x.transfer.length;
-    let phase = x.phase;
-    let busy = slots::is_busy(phase);
-    if busy {
-        return within & busy_sound(i, x);
-    }
-    within
-}
-
+// A slot: only an enabled one that isn't stalled has a transfer, and only while powered.
 fn slot_sound(powered: bool, i: usize, x: Slot) -> bool
     ensures { λ r. ⌜ r ≡ slotb powered i x ⌝ }
 {
     let config = x.config;
-    let used = use_sound(powered, i, x);
+    let phase = x.phase;
     let configured = config_sound(i, x.configured, config);
-    let transfer = transfer_sound(i, x);
-    (used & configured) & transfer
-}
-
-fn slots_sound(state: State) -> bool
-    ensures { λ r. ⌜ r ≡ slotsb state 16 ⌝ }
-{
-    let mut ok = true;
-    let mut i: usize = 0;
-    while i < 16 {
-        let x = state.endpoints[i];
-        let good = slot_sound(state.powered, i, x);
-        ok = ok & good;
-        i = i + 1;
+    if !configured {
+        return false;
     }
-    ok
+    if i < 2 {
+        return true;
+    }
+    if x.transfer.length < x.transfer.progress {
+        return false;
+    }
+    match phase {
+        Phase::Idle => !x.enabled | x.configured,
+        Phase::Done => (powered & x.enabled) & (x.configured & !x.stalled),
+        Phase::Busy => {
+            if (powered & x.enabled) & (x.configured & !x.stalled) {
+                return busy_sound(i, x);
+            }
+            false
+        }
+    }
 }
 
 // The reading that an interrupt awaits.
@@ -154,9 +149,20 @@ fn own_sound(state: State, events: Events) -> bool
 pub fn sound(state: State, events: Events) -> bool
     ensures { λ r. ⌜ r ≡ soundb state events ⌝ }
 {
-    let slots = slots_sound(state);
     let own = own_sound(state, events);
-    slots & own
+    if !own {
+        return false;
+    }
+    let mut i: usize = 0;
+    while i < 16 {
+        let x = state.endpoints[i];
+        let good = slot_sound(state.powered, i, x);
+        if !good {
+            return false;
+        }
+        i = i + 1;
+    }
+    true
 }
 
 fn allocations_sound(driver: Driver) -> bool
@@ -190,16 +196,22 @@ pub fn driver_sound(driver: Driver) -> bool
     endpoints & memory
 }
 
-// 26 and 24, which every call asks, before its further tests.
+// 26 and 24, which every call asks, before its further tests: of what `sound` says, and of the reading awaited.
+pub fn turn_of(good: bool, awaited: Awaited, further: Check) -> Check
+    ensures { λ r. ⌜ r ≡ turnOf good (awaited .next) further ⌝ }
+{
+    let next = awaited.next;
+    let awaiting = state::readings::is_awaiting(next);
+    let turn = state::refusals::first(awaiting, Refusal::OutOfTurn, further);
+    state::refusals::first(!good, Refusal::Unsound, turn)
+}
+
 pub fn in_turn(state: State, events: Events, further: Check) -> Check
     ensures { λ r. ⌜ r ≡ inTurn state events further ⌝ }
 {
     let awaited = state.awaited;
-    let next = awaited.next;
     let good = sound(state, events);
-    let awaiting = state::readings::is_awaiting(next);
-    let turn = state::refusals::first(awaiting, Refusal::OutOfTurn, further);
-    state::refusals::first(!good, Refusal::Unsound, turn)
+    turn_of(good, awaited, further)
 }
 
 // The same of a call that is lent a list of so many numbers, with 10 before them.

@@ -20,8 +20,11 @@ abbrev pub inHandCount : State → ℕ → ℕ
 inHandCount s n = count (λ k. not (idleb (slotAt s (k + 2) .phase))) n
 
 -- 4 where two data slots or more aren't idle, else 3
+abbrev pub windowOf : ℕ → ℕ
+windowOf n = cond (ltb 1 n) 4 3
+
 unfoldable pub outWindow : State → ℕ
-outWindow s = cond (ltb 1 (inHandCount s 14)) 4 3
+outWindow s = windowOf (inHandCount s 14)
 
 -- an OUT endpoint's window is written where it is busy
 abbrev pub windowAt : State → ℕ → ℕ → List Op

@@ -7,7 +7,7 @@ ghost use lib.ListN.{length};
 ghost use Rattle.ops.specs.Ops.{records};
 ghost use Rattle.ops.specs.Wrote.{Wrote};
 ghost use Rattle.regs_endpoint.specs.Endpoint.{windowOps};
-ghost use Rattle.window.specs.Window.{inHandCount, outWindow, windowsOps, ownWindowOps};
+ghost use Rattle.window.specs.Window.{inHandCount, windowOf, outWindow, windowsOps};
 use state::State;
 
 // How many data slots have a transfer in hand. EP0's slots, 0 and 1, don't count.
@@ -28,11 +28,17 @@ fn in_hand(state: State) -> u32
 }
 
 // 4 where endpoints share the bus, else 3.
+pub fn window_of(count: u32) -> u32
+    ensures { λ r. ⌜ r ≡ windowOf count ⌝ }
+{
+    if 1 < count { 4 } else { 3 }
+}
+
 pub fn out_window(state: State) -> u32
     ensures { λ r. ⌜ r ≡ outWindow state ⌝ }
 {
     let count = in_hand(state);
-    if 1 < count { 4 } else { 3 }
+    window_of(count)
 }
 
 // The window of an OUT endpoint, where it is busy.
@@ -64,16 +70,4 @@ pub fn set_windows(ops: &mut [u32], at: usize, state: State) -> usize
         k = index;
     }
     a
-}
-
-// The window of an endpoint that goes on; IN has none.
-pub fn set_own_window(ops: &mut [u32], at: usize, state: State, index: u8, incoming: bool) -> usize
-    requires { ⌜ at + records 1 ≤ length (now ops) ⌝ }
-    ensures { λ r. ⌜ Wrote (now (ops .entry)) at (ownWindowOps state index incoming) r (now (ops .exit)) ⌝ }
-{
-    if incoming {
-        return at;
-    }
-    let window = out_window(state);
-    regs_endpoint::set_out_window(ops, at, index as u32, window)
 }

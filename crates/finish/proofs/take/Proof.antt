@@ -1,65 +1,78 @@
--- `take`: busy, taken or refused. Assumes nothing.
+-- `take`: the slot is taken where it lies. Assumes nothing.
 use borrow.Author.Needs.{needs}
 use mathlib.Core.Path.{_≡_, sym, _∙_}
-use Rattle.finish.specs.Take.{takeCheck, take-at, take-told}
+use lib.ListN.{length}
+use Rattle.slots.specs.Each.{length-mapped}
+use Rattle.slots.specs.Slots.{no-slot}
+use Rattle.finish.specs.Take.{take-told, took-take, took-nothing}
 use Rattle.finish.proofs.take.Statement.{statement}
 use Rattle.finish.proofs.take.Tie as tie
 
-checked : (c : tie.After-take-check) → takeCheck (c .before .before .before .before .args .state) (c .before .before .before .before .args .events) (c .before .before .before .before .args .index) (c .before .before .before .before .args .incoming) ≡ c .take-check .result
-unfolding takeCheck
-checked c =
-    let i = c .before in
-    let x = i .before in
-    rw (c .take-check .ensures, i .is-idle .ensures, x .slot-at .ensures, x .before .slot-number .ensures)
+sixteen : (c : tie.Start) → length (c .args .state .endpoints) ≡ 16
+sixteen c = search length-mapped
 
-slot-number-requires : tie.Need-slot-number-requires
-slot-number-requires c κs = search needs
-
-slot-at-requires : tie.Need-slot-at-requires
-slot-at-requires c κs = search needs
-
-is-idle-requires : tie.Need-is-idle-requires
-is-idle-requires c κs = search needs
-
-take-check-requires : tie.Need-take-check-requires
-take-check-requires c κs = search needs
-
-enum-told : tie.Need-enum-told
-enum-told c = search needs
-
-taken-requires : tie.Need-taken-requires
-taken-requires c κs = search needs
-
-enum-known-check : tie.Need-enum-known-check
-enum-known-check c = search needs
+sound-requires : tie.Need-sound-requires
+sound-requires c κs = search needs
 
 no-wakes-requires : tie.Need-no-wakes-requires
 no-wakes-requires c κs = search needs
 
+slot-number-requires : tie.Need-slot-number-requires
+slot-number-requires c κs = search needs
+
+mul-slot : tie.Need-mul-slot
+mul-slot c = search needs
+
+element-copy-out-slot : tie.Need-element-copy-out-slot
+element-copy-out-slot c = search needs
+
+take-slot-requires : tie.Need-take-slot-requires
+take-slot-requires c κs = search needs
+
+mul-y : tie.Need-mul-y
+mul-y c = search needs
+
+element-set-from-y : tie.Need-element-set-from-y
+element-set-from-y c = search needs
+
 returns : tie.Need-returns
 returns c =
     let t = c .before in
-    let k = t .before .before in
-    let x = k .before .before in
-    take-told _ _ _ _ _ ((rw (x .slot-at .ensures, x .before .slot-number .ensures) at (c .taken .ensures)) ∙ take-at _ _ _ _ _ (checked k ∙ t .enum-told .given .1))
+    let n = t .before .before .before in
+    let g = n .before .before .before in
+    take-told _ _ _ _ _ (rw (n .before .no-wakes .ensures) (took-take (g .before .args .state) _ _ _ _ _ (n .slot-number .ensures) (rw (g .sound .ensures) at (t .take-slot .ensures))))
+
+fresh-slot-requires : tie.Need-fresh-slot-requires
+fresh-slot-requires c κs = search needs
+
+take-slot-requires-2 : tie.Need-take-slot-requires-2
+take-slot-requires-2 c κs = search needs
 
 returns-2 : tie.Need-returns-2
 returns-2 c =
-    let q = c .before .before in
-    let k = q .before .before in
-    take-told _ _ _ _ _ (rw (c .no-wakes .ensures) (take-at _ _ _ _ _ (checked k ∙ q .check .given .1)))
+    let f = c .before in
+    let l = f .before in
+    let n = l .before in
+    let g = n .before .before .before in
+    let s = g .before .args .state in
+    take-told _ _ _ _ _
+    (rw (n .before .no-wakes .ensures)
+    (took-nothing s (n .slot-number .result) (c .take-slot2 .result) (sixteen (g .before)) (l .if1 .left)
+    ∙ took-take s _ _ _ _ _ (n .slot-number .ensures) (rw (g .sound .ensures, f .fresh-slot .ensures ∙ sym (no-slot s (n .slot-number .result) (sixteen (g .before)) (l .if1 .left))) at (c .take-slot2 .ensures))))
 
 pub take-spec : {M : Type 1} → statement M
 take-spec =
     tie.close
     (tie.spec
-    slot-number-requires
-    slot-at-requires
-    is-idle-requires
-    take-check-requires
-    enum-told
-    taken-requires
-    enum-known-check
+    sound-requires
     no-wakes-requires
+    slot-number-requires
+    mul-slot
+    element-copy-out-slot
+    take-slot-requires
+    mul-y
+    element-set-from-y
     returns
+    fresh-slot-requires
+    take-slot-requires-2
     returns-2)

@@ -17,14 +17,14 @@ go-on-requires c κs = search needs
 enum-known-step-2 : tie.Need-enum-known-step-2
 enum-known-step-2 c = search needs
 
-slot-number-requires : tie.Need-slot-number-requires
-slot-number-requires c κs = search needs
+moved-requires : tie.Need-moved-requires
+moved-requires c κs = search needs
 
-complete-requires : tie.Need-complete-requires
-complete-requires c κs = search needs
+add-slot-requires : tie.Need-add-slot-requires
+add-slot-requires c κs = search needs
 
 returns : tie.Need-returns
-returns c = rw (c .enum-told .given .1) (refl, none _ _)
+returns c = rw (c .enum-told .given .1) (refl, (refl, none _ _))
 
 same-length : tie.Need-same-length
 same-length c = search needs
@@ -36,8 +36,8 @@ returns-2 c =
 
 returns-3 : tie.Need-returns-3
 returns-3 c =
-    let n = c .before in
-    rw (n .before .before .step2 .given .1) (rw (c .complete .ensures, n .slot-number .ensures), none _ _)
+    let m = c .before in
+    rw (m .before .before .before .step2 .given .1) (m .moved .ensures, (c .add-slot .ensures, none _ _))
 
 pub follow-spec : {M : Type 1} → statement M
 follow-spec =
@@ -47,8 +47,8 @@ follow-spec =
     enum-known-step
     go-on-requires
     enum-known-step-2
-    slot-number-requires
-    complete-requires
+    moved-requires
+    add-slot-requires
     returns
     same-length
     returns-2

@@ -1,18 +1,18 @@
--- `config_sound`: the five clauses of a configuration, or nothing to hold. Assumes nothing.
-use borrow.Author.Needs.{needs}
-use mathlib.Core.Bool.{_&&_}
+-- `config_sound`: out at the first clause that is not met, or nothing to hold. Assumes nothing.
+use Prim.Native.Nat.{ℕ}
+use mathlib.Core.Bool.{Bool, true, false, _&&_}
+use mathlib.Core.Path.{_≡_, sym, _∙_}
+use borrow.Author.Tests.{eq-eqb, ne-eqb}
 use lib.Dec.{ltb}
-use Rattle.sound.specs.Clauses.{multiple}
-use mathlib.Core.Bool.{and-true}
-use Rattle.sound.specs.Sound.{configb}
+use Rattle.state.specs.declared.EndpointConfig.{EndpointConfig}
+use Rattle.sound.specs.Clauses.{multiple, packetSize}
+use Rattle.sound.specs.Sound.{configb, config-last}
+use borrow.Author.Needs.{needs}
 use Rattle.sound.proofs.config_sound.Statement.{statement}
 use Rattle.sound.proofs.config_sound.Tie as tie
 
 slot-number-requires : tie.Need-slot-number-requires
 slot-number-requires c κs = search needs
-
-cast-m : tie.Need-cast-m
-cast-m c = search needs
 
 in-ram-requires : tie.Need-in-ram-requires
 in-ram-requires c κs = search needs
@@ -20,28 +20,48 @@ in-ram-requires c κs = search needs
 is-aligned-requires : tie.Need-is-aligned-requires
 is-aligned-requires c κs = search needs
 
-is-multiple-requires : tie.Need-is-multiple-requires
-is-multiple-requires c κs = search needs
+whole-packets-requires : tie.Need-whole-packets-requires
+whole-packets-requires c κs = search needs
+
+abbrev config : tie.After-is-aligned → EndpointConfig
+config c = c .before .before .before .before .before .args .config
+
+abbrev number : tie.After-is-aligned → ℕ
+number c = c .before .before .before .before .before .args .i
+
+-- the slot's own number, and what the other clauses come to
+met : (c : tie.After-is-aligned) (t : Bool)
+    → (packetSize (config c .«max_packet_size») && (c .before .in-ram .result && (c .is-aligned .result && ltb 0 (config c .buffer .size)))) ≡ t
+    → (t && multiple (config c .buffer .size) (config c .«max_packet_size»)) ≡ configb (number c) true (config c)
+met c t h =
+    let i = c .before .before in
+    config-last (number c) (config c) (c .before .in-ram .result) (c .is-aligned .result) t (eq-eqb _ _ (sym (i .before .slot-number .ensures) ∙ i .if2 .taken)) (c .before .in-ram .ensures) (c .is-aligned .ensures) h
 
 returns : tie.Need-returns
-unfolding configb
 returns c =
-    let p = c .before .before .before .before in
-    let k = p .before .before .args .config in
-    rw (p .before .if1 .taken, p .slot-number .ensures, c .before .before .in-ram .ensures, c .before .is-aligned .ensures, c .is-multiple .ensures, and-true (ltb 0 (k .buffer .size) && multiple (k .buffer .size) (k .«max_packet_size»)))
+    let t = c .before in
+    rw (t .before .before .before .before .before .if1 .taken) (c .whole-packets .ensures ∙ met (t .before) true (t .if3 .taken))
 
 returns-2 : tie.Need-returns-2
+returns-2 c = rw (c .before .before .before .before .before .if1 .taken) (met (c .before) false (c .if3 .left))
+
+returns-3 : tie.Need-returns-3
 unfolding configb
-returns-2 c = rw (c .if1 .left)
+returns-3 c = rw (c .before .before .if1 .taken, sym (c .before .slot-number .ensures), ne-eqb _ _ (c .if2 .left))
+
+returns-4 : tie.Need-returns-4
+unfolding configb
+returns-4 c = rw (c .if1 .left)
 
 pub config-sound-spec : {M : Type 1} → statement M
 config-sound-spec =
     tie.close
     (tie.spec
     slot-number-requires
-    cast-m
     in-ram-requires
     is-aligned-requires
-    is-multiple-requires
+    whole-packets-requires
     returns
-    returns-2)
+    returns-2
+    returns-3
+    returns-4)
