@@ -4,6 +4,7 @@ use Prim.Native.Nat.{ℕ, _≤_}
 use mathlib.Core.Path.{_≡_, refl}
 use mathlib.Core.Bool.{Bool, true, false, _&&_, not, cond}
 use mathlib.Core.List.{List, [], _∷_}
+use borrow.Author.Tests.{not-false}
 use lib.Dec.{ltb}
 use Rattle.ops.specs.Ops.{Op}
 use Rattle.state.specs.declared.Slot.{Slot}
@@ -12,24 +13,28 @@ use Rattle.state.specs.declared.Events.{Events}
 use Rattle.state.specs.declared.Refusal.the-variants.{ListTooShort, Unsound, OutOfTurn, NoDataEndpoint}
 use Rattle.state.specs.declared.Check.{Check}
 use Rattle.state.specs.declared.Check.the-variants.{Fits, Refused}
-use Rattle.slots.specs.Slots.{busyb, slotNumber, dataEndpoint, forgotten, withSlot}
-use Rattle.state.specs.Fresh.{slotAt}
+use Rattle.slots.specs.Slots.{busyb, slotNumber, slotPlace, data-place, dataEndpoint, forgotten, withSlot}
+use Rattle.slots.specs.Each.{set-own}
+use Rattle.state.specs.Fresh.{freshSlot, slotAt}
 use Rattle.state.specs.Numbers.{refusalNumber}
 use Rattle.state.specs.Awaiting.{awaitingb}
-use Rattle.state.specs.Refusals.{Due, _if_, firstDue, Bound, bound}
+use Rattle.state.specs.Refusals.{Due, _if_, firstDue, none-due, not-due, Bound, bound}
 use Rattle.sound.specs.Sound.{soundb}
 use Rattle.sound.specs.Turn.{admitted-room}
 use Rattle.regs_endpoint.specs.Endpoint.{abortBusyOps}
 use Rattle.finish.specs.declared.AbandonAnswer.{AbandonAnswer}
 use Rattle.finish.specs.declared.AbandonAnswer.the-variants as abandon
 
+-- 7
+abbrev pub reachDues : ℕ → List Due
+reachDues e = NoDataEndpoint if not (dataEndpoint e) ∷ []
+
 abbrev pub abandonDues : State → Events → ℕ → ℕ → List Due
 abandonDues s v e room =
     ListTooShort if ltb room 640
     ∷ Unsound if not (soundb s v)
     ∷ OutOfTurn if awaitingb (s .awaited .next)
-    ∷ NoDataEndpoint if not (dataEndpoint e)
-    ∷ []
+    ∷ reachDues e
 
 unfoldable pub abandonCheck : State → Events → ℕ → ℕ → Check
 abandonCheck s v e room = firstDue (abandonDues s v e room)
@@ -49,6 +54,11 @@ abandonAnswerAt (Refused r) incoming x = abandon.Refused r
 abbrev pub abandonStateAt : Check → State → ℕ → Slot → State
 abandonStateAt Fits s i x = withSlot s i (abandonedSlot x)
 abandonStateAt (Refused r) s i x = s
+
+-- the same of the slot by itself
+abbrev pub abandonSlotAt : Check → Slot → Slot
+abandonSlotAt Fits x = abandonedSlot x
+abandonSlotAt (Refused r) x = x
 
 -- a busy transfer's chain is aborted
 abbrev pub abandonOpsAt : Check → ℕ → Bool → Slot → List Op
@@ -89,17 +99,27 @@ abandon-numbers r s v e incoming room q = rw q (go (abandonCheck s v e room) (sl
 -- one that fits was lent enough
 pub abandon-room : (s : State) (v : Events) (e room : ℕ) → abandonCheck s v e room ≡ Fits → 640 ≤ room
 unfolding abandonCheck
-abandon-room s v e room h = admitted-room room s v (firstDue (NoDataEndpoint if not (dataEndpoint e) ∷ [])) h
+abandon-room s v e room h = admitted-room room s v (firstDue (reachDues e)) h
 
 -- Each refusal is given exactly where it is the first that is due, and none where none is.
 pub abandon-bound : (s : State) (v : Events) (e room : ℕ) → Bound (abandonDues s v e room) (abandonCheck s v e room)
 unfolding abandonCheck
 abandon-bound s v e room = bound (abandonDues s v e room)
 
--- what a call comes to, by what its tests come to: a refused one leaves the state as it was, with no operation
-pub abandon-at : (s : State) (v : Events) (e : ℕ) (incoming : Bool) (room : ℕ) (c : Check) → abandonCheck s v e room ≡ c
-    → (abandonAnswerAt c incoming (slotAt s (slotNumber e incoming)) ≡ abandonAnswer s v e incoming room)
-    × ((abandonStateAt c s (slotNumber e incoming) (slotAt s (slotNumber e incoming)) ≡ abandonState s v e incoming room)
-    × (abandonOpsAt c e incoming (slotAt s (slotNumber e incoming)) ≡ abandonOps s v e incoming room))
+-- one that fits is of a data endpoint
+pub abandon-reaches : (s : State) (v : Events) (e room : ℕ) → abandonCheck s v e room ≡ Fits → dataEndpoint e ≡ true
+unfolding abandonCheck
+abandon-reaches s v e room h =
+    let n1 = not-due (none-due (abandonDues s v e room) h) in
+    let n2 = not-due (n1 .1) in
+    let n3 = not-due (n2 .1) in
+    not-false _ (not-due (n3 .1) .0)
+
+-- an abandon, of what stands in the endpoint's place: where it is refused, that is left as it was
+pub abandon-stored : (s : State) (v : Events) (e : ℕ) (incoming : Bool) (room : ℕ) (c : Check) → abandonCheck s v e room ≡ c
+    → (abandonAnswerAt c incoming (slotAt s (slotPlace e incoming)) ≡ abandonAnswer s v e incoming room)
+    × ((withSlot s (slotPlace e incoming) (abandonSlotAt c (slotAt s (slotPlace e incoming))) ≡ abandonState s v e incoming room)
+    × (abandonOpsAt c e incoming (slotAt s (slotPlace e incoming)) ≡ abandonOps s v e incoming room))
 unfolding abandonAnswer abandonState abandonOps
-abandon-at s v e incoming room c h = (rw h, (rw h, rw h))
+abandon-stored s v e incoming room Fits h = rw (h, data-place e incoming (abandon-reaches s v e room h)) (refl, (refl, refl))
+abandon-stored s v e incoming room (Refused r) h = rw h (refl, (rw (set-own (s .endpoints) (slotPlace e incoming) freshSlot), refl))

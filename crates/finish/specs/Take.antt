@@ -1,9 +1,7 @@
 -- Taking a transfer's result (reference: the polling of `run` in endpoint.rs).
 -- Assumes nothing.
-use Prim.Native.Nat.{ℕ, _+_, _%_, _^_, _≤_}
+use Prim.Native.Nat.{ℕ, _+_, _%_, _^_}
 use mathlib.Core.Path.{_≡_, refl}
-use native.Mathlib.Omega.{arith}
-use lib.ListN.{length}
 use mathlib.Core.Bool.{Bool, true, false, not}
 use mathlib.Core.List.{List, [], _∷_}
 use Rattle.state.specs.declared.Phase.the-variants.{Idle}
@@ -13,15 +11,15 @@ use Rattle.state.specs.declared.Events.{Events}
 use Rattle.state.specs.declared.Refusal.the-variants.{Unsound, OutOfTurn, NoDataEndpoint, Disabled}
 use Rattle.state.specs.declared.Check.{Check}
 use Rattle.state.specs.declared.Check.the-variants.{Fits, Refused}
-use Rattle.slots.specs.Slots.{idleb, busyb, slotNumber, dataEndpoint, withSlot}
+use Rattle.slots.specs.Slots.{idleb, busyb, slotNumber, slotPlace, data-place, dataEndpoint, withSlot}
 use Rattle.state.specs.Fresh.{freshSlot, slotAt}
-use Rattle.slots.specs.Each.{set-own, set-past}
+use Rattle.slots.specs.Each.{set-own}
 use Rattle.state.specs.Numbers.{refusalNumber}
 use Rattle.state.specs.Awaiting.{awaitingb}
 use Rattle.state.specs.Refusals.{Due, _if_, firstDue, Bound, bound}
 use Rattle.slots.specs.Waking.{noWakes}
 use Rattle.sound.specs.Sound.{soundb}
-use Rattle.sound.specs.Turn.{turnOf}
+use Rattle.sound.specs.Turn.{turnOf, turn-refused}
 use Rattle.finish.specs.declared.TakeAnswer.{TakeAnswer}
 use Rattle.finish.specs.declared.TakeAnswer.the-variants as take
 use Rattle.finish.specs.declared.TakeResult.{TakeResult}
@@ -128,18 +126,23 @@ pub take-bound : (s : State) (v : Events) (e : ℕ) (incoming : Bool) → Bound 
 unfolding takeCheck
 take-bound s v e incoming = bound (takeDues s v e incoming)
 
--- a take, of the slot where it lies
-pub took-take : (s : State) (v : Events) (e : ℕ) (incoming : Bool) (i : ℕ) (t : Took) → i ≡ slotNumber e incoming
-    → t ≡ tookAt (turnOf (soundb s v) (s .awaited .next) (firstDue (waitingDues e (idleb (slotAt s i .phase))))) (slotAt s i) → tookResult s i t ≡ takeResult s v e incoming
+-- a take, of what stands in the endpoint's place: where it is refused, that is left as it was
+pub took-take : (s : State) (v : Events) (e : ℕ) (incoming : Bool)
+    → tookResult s (slotPlace e incoming) (tookAt (turnOf (soundb s v) (s .awaited .next) (firstDue (waitingDues e (idleb (slotAt s (slotPlace e incoming) .phase))))) (slotAt s (slotPlace e incoming)))
+    ≡ takeResult s v e incoming
 unfolding takeResult takeCheck
-took-take s v e incoming i t h q = rw (q, h) (took-stored (takeCheck s v e incoming) s (slotNumber e incoming))
+took-take s v e incoming = go (dataEndpoint e) refl
+  where
+    j : ℕ
+    j = slotPlace e incoming
 
--- past the sixteen slots nothing is stored
-pub took-nothing : (s : State) (i : ℕ) (t : Took) → length (s .endpoints) ≡ 16 → 16 ≤ i → record { answer = t .answer; state = s; wakes = noWakes } ≡ tookResult s i t
-took-nothing s i t h b = rw (set-past (s .endpoints) i (t .slot) (omega (arith, h, b)))
+    turned : (c : Check) → c ≡ turnOf (soundb s v) (s .awaited .next) (Refused NoDataEndpoint)
+        → tookResult s j (tookAt c (slotAt s j)) ≡ takeAt c s (slotNumber e incoming) (slotAt s (slotNumber e incoming))
+    turned Fits q = absurd (turn-refused (soundb s v) (s .awaited .next) NoDataEndpoint q)
+    turned (Refused r) q = rw (set-own (s .endpoints) j freshSlot)
 
--- what a take comes to, by what its tests come to: a refused one leaves the state as it was
-pub take-at : (s : State) (v : Events) (e : ℕ) (incoming : Bool) (c : Check) → takeCheck s v e incoming ≡ c
-    → takeAt c s (slotNumber e incoming) (slotAt s (slotNumber e incoming)) ≡ takeResult s v e incoming
-unfolding takeResult
-take-at s v e incoming c h = rw h
+    go : (b : Bool) → dataEndpoint e ≡ b
+        → tookResult s j (tookAt (turnOf (soundb s v) (s .awaited .next) (firstDue (waitingDues e (idleb (slotAt s j .phase))))) (slotAt s j))
+        ≡ takeAt (takeCheck s v e incoming) s (slotNumber e incoming) (slotAt s (slotNumber e incoming))
+    go true d = rw (data-place e incoming d) (took-stored (takeCheck s v e incoming) s (slotNumber e incoming))
+    go false d = rw d (turned (turnOf (soundb s v) (s .awaited .next) (Refused NoDataEndpoint)) refl)

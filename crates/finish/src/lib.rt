@@ -6,12 +6,11 @@ ghost use Rattle.ops.specs.Ops.{records};
 ghost use Rattle.ops.specs.Wrote.{Wrote};
 ghost use Rattle.state.specs.Refusals.{firstDue};
 ghost use Rattle.state.specs.declared.Check.the-variants.{Fits};
-ghost use Rattle.slots.specs.Slots.{idleb, slotNumber};
-ghost use Rattle.state.specs.Fresh.{slotAt};
+ghost use Rattle.slots.specs.Slots.{idleb};
 ghost use Rattle.slots.specs.Waking.{noWakes};
-ghost use Rattle.sound.specs.Turn.{turnOf};
+ghost use Rattle.sound.specs.Turn.{turnOf, admittedOf};
 ghost use Rattle.finish.specs.Take.{waitingDues, takenSlot, tookAt, takeResult, takeNumbers, takeSays};
-ghost use Rattle.finish.specs.Abandon.{settleTime, abandonCheck, abandonAnswerAt, abandonStateAt, abandonOpsAt, abandonAnswer, abandonState, abandonOps, abandonNumbers, abandonSays};
+ghost use Rattle.finish.specs.Abandon.{settleTime, reachDues, abandonAnswerAt, abandonSlotAt, abandonOpsAt, abandonAnswer, abandonState, abandonOps, abandonNumbers, abandonSays};
 use state::Awaited;
 use state::Check;
 use state::Events;
@@ -29,8 +28,8 @@ pub enum TakeAnswer {
 }
 
 pub struct TakeResult {
-    pub answer: TakeAnswer,
     pub state: State,
+    pub answer: TakeAnswer,
     pub wakes: Wakes,
 }
 
@@ -46,10 +45,16 @@ pub enum AbandonAnswer {
 }
 
 pub struct AbandonResult {
-    pub answer: AbandonAnswer,
     pub state: State,
+    pub answer: AbandonAnswer,
     pub end: usize,
     pub wakes: Wakes,
+}
+
+struct Gone {
+    answer: AbandonAnswer,
+    slot: Slot,
+    end: usize,
 }
 
 // The slot with its transfer finished.
@@ -117,35 +122,25 @@ pub fn take(state: State, events: Events, index: u8, incoming: bool) -> TakeResu
     let good = sound::sound(s, events);
     let awaited = s.awaited;
     let wakes = slots::waking::no_wakes();
-    let i = slots::slot_number(index, incoming);
-    if i < 16 {
-        let slot = s.endpoints[i];
-        let t = take_slot(good, awaited, index, slot);
-        let y = t.slot;
-        let answer = t.answer;
-        s.endpoints[i] = y;
-        return TakeResult {
-            answer: answer,
-            state: s,
-            wakes: wakes,
-        };
-    }
-    let none = state::fresh::fresh_slot();
-    let t = take_slot(good, awaited, index, none);
+    let i = slots::slot_place(index, incoming);
+    let slot = s.endpoints[i];
+    let t = take_slot(good, awaited, index, slot);
+    let y = t.slot;
     let answer = t.answer;
+    s.endpoints[i] = y;
     TakeResult {
-        answer: answer,
         state: s,
+        answer: answer,
         wakes: wakes,
     }
 }
 
-fn abandon_check(room: usize, state: State, events: Events, index: u8) -> Check
-    ensures { λ r. ⌜ r ≡ abandonCheck state events index room ⌝ }
+fn abandon_check(room: usize, good: bool, awaited: Awaited, index: u8) -> Check
+    ensures { λ r. ⌜ r ≡ admittedOf room good (awaited .next) (firstDue (reachDues index)) ⌝ }
 {
     let data = slots::is_data_endpoint(index);
     let further = state::refusals::first(!data, Refusal::NoDataEndpoint, Check::Fits);
-    sound::admit(room, state, events, further)
+    sound::admit(room, good, awaited, further)
 }
 
 // How long an endpoint is to be left alone: a host may still read what was cut short.
@@ -155,26 +150,31 @@ fn settle_time(incoming: bool, busy: bool) -> u32
     if incoming & busy { 100 } else { 0 }
 }
 
-fn abandoned(ops: &mut [u32], state: State, index: u8, incoming: bool) -> AbandonResult
-    requires { ⌜ records 3 ≤ listLength (now ops) ⌝ }
-    ensures answer { λ r. ⌜ (r .answer ≡ abandonAnswerAt Fits incoming (slotAt state (slotNumber index incoming))) × (r .wakes ≡ noWakes) ⌝ }
-    ensures state { λ r. ⌜ r .state ≡ abandonStateAt Fits state (slotNumber index incoming) (slotAt state (slotNumber index incoming)) ⌝ }
-    ensures list { λ r. ⌜ Wrote (now (ops .entry)) 0 (abandonOpsAt Fits index incoming (slotAt state (slotNumber index incoming))) (r .end) (now (ops .exit)) ⌝ }
+// What an abandon says of a slot, leaves of it and writes.
+fn abandon_slot(ops: &mut [u32], check: Check, index: u8, incoming: bool, slot: Slot) -> Gone
+    requires { ⌜ (check ≡ Fits → records 3 ≤ listLength (now ops)) ⌝ }
+    ensures answer { λ r. ⌜ r .answer ≡ abandonAnswerAt check incoming slot ⌝ }
+    ensures slot { λ r. ⌜ r .slot ≡ abandonSlotAt check slot ⌝ }
+    ensures list { λ r. ⌜ Wrote (now (ops .entry)) 0 (abandonOpsAt check index incoming slot) (r .end) (now (ops .exit)) ⌝ }
 {
-    let i = slots::slot_number(index, incoming);
-    let slot = slots::slot_at(state, i);
-    let phase = slot.phase;
-    let busy = slots::is_busy(phase);
-    let end = regs_endpoint::abort_busy(ops, 0, index as u32, incoming, busy);
-    let y = slots::forget(slot, true, slot.enabled, slot.stalled);
-    let s = slots::with_slot(state, i, y);
-    let settle = settle_time(incoming, busy);
-    let wakes = slots::waking::no_wakes();
-    AbandonResult {
-        answer: AbandonAnswer::Abandoned(settle),
-        state: s,
-        end: end,
-        wakes: wakes,
+    match check {
+        Check::Fits => {
+            let phase = slot.phase;
+            let busy = slots::is_busy(phase);
+            let end = regs_endpoint::abort_busy(ops, 0, index as u32, incoming, busy);
+            let y = slots::forget(slot, true, slot.enabled, slot.stalled);
+            let settle = settle_time(incoming, busy);
+            Gone {
+                answer: AbandonAnswer::Abandoned(settle),
+                slot: y,
+                end: end,
+            }
+        }
+        Check::Refused(refusal) => Gone {
+            answer: AbandonAnswer::Refused(refusal),
+            slot: slot,
+            end: 0,
+        },
     }
 }
 
@@ -192,17 +192,21 @@ pub fn abandon(
     ensures wakes { λ r. ⌜ r .wakes ≡ noWakes ⌝ }
     ensures numbers { λ r. ⌜ abandonNumbers (r .answer) ≡ abandonSays state events index incoming (listLength (now (ops .entry))) ⌝ }
 {
-    let check = abandon_check(ops.len(), state, events, index);
-    match check {
-        Check::Fits => abandoned(ops, state, index, incoming),
-        Check::Refused(refusal) => {
-            let wakes = slots::waking::no_wakes();
-            AbandonResult {
-                answer: AbandonAnswer::Refused(refusal),
-                state: state,
-                end: 0,
-                wakes: wakes,
-            }
-        }
+    let mut s = state;
+    let good = sound::sound(s, events);
+    let awaited = s.awaited;
+    let wakes = slots::waking::no_wakes();
+    let check = abandon_check(ops.len(), good, awaited, index);
+    let i = slots::slot_place(index, incoming);
+    let slot = s.endpoints[i];
+    let g = abandon_slot(ops, check, index, incoming, slot);
+    let y = g.slot;
+    let answer = g.answer;
+    s.endpoints[i] = y;
+    AbandonResult {
+        state: s,
+        answer: answer,
+        end: g.end,
+        wakes: wakes,
     }
 }

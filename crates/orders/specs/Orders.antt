@@ -7,7 +7,7 @@ use mathlib.Core.List.{List, [], _∷_, _++_}
 use lib.Dec.{ltb}
 use lib.ListN.{length}
 use Rattle.ops.specs.Ops.{Op, flat}
-use Rattle.ops.specs.Wrote.{Wrote}
+use Rattle.ops.specs.Wrote.{Wrote, same}
 use Rattle.state.specs.declared.EndpointType.{EndpointType}
 use Rattle.state.specs.declared.EndpointType.the-variants as kind
 use Rattle.state.specs.declared.Slot.{Slot}
@@ -18,8 +18,9 @@ use Rattle.state.specs.declared.Refusal.{Refusal}
 use Rattle.state.specs.declared.Refusal.the-variants.{ListTooShort, Unsound, OutOfTurn}
 use Rattle.state.specs.declared.Check.{Check}
 use Rattle.state.specs.declared.Check.the-variants.{Fits, Refused}
-use Rattle.slots.specs.Slots.{busyb, slotNumber, dataEndpoint, forgotten, resetSlot, withSlot}
-use Rattle.state.specs.Fresh.{slotAt}
+use Rattle.slots.specs.Slots.{busyb, slotNumber, slotPlace, data-place, dataEndpoint, forgotten, resetSlot, withSlot}
+use Rattle.slots.specs.Each.{set-own}
+use Rattle.state.specs.Fresh.{freshSlot, slotAt}
 use Rattle.state.specs.Awaiting.{awaitingb}
 use Rattle.slots.specs.Waking.{noWakes, wakeSlot}
 use Rattle.state.specs.Numbers.{refusalNumber, checkNumber}
@@ -32,6 +33,7 @@ use Rattle.orders.specs.declared.Order.the-variants.{Stall, Enable}
 use Rattle.orders.specs.declared.OrderAnswer.{OrderAnswer}
 use Rattle.orders.specs.declared.OrderAnswer.the-variants as order
 use Rattle.orders.specs.declared.OrderResult.{OrderResult}
+use Rattle.orders.specs.declared.Obeyed.{Obeyed}
 
 abbrev pub isochronous : EndpointType → Bool
 isochronous kind.Control = false
@@ -43,17 +45,23 @@ isochronous kind.Interrupt = false
 abbrev pub slotOf : State → ℕ → Bool → Slot
 slotOf s index incoming = slotAt s (slotNumber index incoming)
 
--- orders reach a data endpoint that is configured, while the device is powered
-abbrev pub reached : State → ℕ → Bool → Bool
-reached s index incoming = dataEndpoint index && (s .powered && slotOf s index incoming .configured)
-
 -- a stall order wants an enabled endpoint, an enable order any
 abbrev pub ready : Order → Bool → Bool
 ready (Stall stalled) enabled = enabled
 ready (Enable on) enabled = true
 
+-- orders reach a data endpoint that is configured, while the device is powered
+abbrev pub reachedSlot : Bool → ℕ → Slot → Bool
+reachedSlot powered index x = dataEndpoint index && (powered && x .configured)
+
+abbrev pub fitSlot : Bool → ℕ → Order → Slot → Bool
+fitSlot powered index o x = reachedSlot powered index x && ready o (x .enabled)
+
+abbrev pub reached : State → ℕ → Bool → Bool
+reached s index incoming = reachedSlot (s .powered) index (slotOf s index incoming)
+
 abbrev pub fit : State → ℕ → Bool → Order → Bool
-fit s index incoming o = reached s index incoming && ready o (slotOf s index incoming .enabled)
+fit s index incoming o = fitSlot (s .powered) index o (slotOf s index incoming)
 
 -- the slot behind an order: either cuts a transfer in hand
 abbrev pub orderedSlot : Order → Slot → Slot
@@ -70,8 +78,8 @@ orderedOps (Enable enabled) index incoming x =
 
 -- an order that isn't refused: its operations, the state behind it, and who is woken. On an unfit endpoint it makes no
 -- operation, yet a data endpoint's slot is woken.
-abbrev pub madeOps : State → ℕ → Bool → Order → List Op
-madeOps s index incoming o = cond (fit s index incoming o) (orderedOps o index incoming (slotOf s index incoming)) []
+abbrev pub madeOps : Bool → ℕ → Bool → Order → Slot → List Op
+madeOps powered index incoming o x = cond (fitSlot powered index o x) (orderedOps o index incoming x) []
 
 abbrev pub madeState : State → ℕ → Bool → Order → State
 madeState s index incoming o =
@@ -82,10 +90,15 @@ orderWakes index incoming = cond (dataEndpoint index) (wakeSlot (slotNumber inde
 
 abbrev pub madeResult : State → ℕ → Bool → Order → OrderResult
 madeResult s index incoming o =
-    record { answer = order.Ordered; state = madeState s index incoming o; end = length (flat (madeOps s index incoming o)); wakes = orderWakes index incoming }
+    record {
+      state = madeState s index incoming o;
+      answer = order.Ordered;
+      end = length (flat (madeOps (s .powered) index incoming o (slotOf s index incoming)));
+      wakes = orderWakes index incoming;
+    }
 
 abbrev pub refusedOrder : Refusal → State → OrderResult
-refusedOrder r s = record { answer = order.Refused r; state = s; end = 0; wakes = noWakes }
+refusedOrder r s = record { state = s; answer = order.Refused r; end = 0; wakes = noWakes }
 
 -- n is how many numbers the list has room for
 abbrev pub orderDues : ℕ → State → Events → List Due
@@ -102,16 +115,16 @@ pub order-room : (n : ℕ) (s : State) (e : Events) → orderCheck n s e ≡ Fit
 unfolding orderCheck
 order-room n s e h = admitted-room n s e Fits h
 
-abbrev pub opsAt : Check → State → ℕ → Bool → Order → List Op
-opsAt Fits s index incoming o = madeOps s index incoming o
-opsAt (Refused r) s index incoming o = []
+abbrev pub obeyedOps : Check → Bool → ℕ → Bool → Order → Slot → List Op
+obeyedOps Fits powered index incoming o x = madeOps powered index incoming o x
+obeyedOps (Refused r) powered index incoming o x = []
 
 abbrev pub resultAt : Check → State → ℕ → Bool → Order → OrderResult
 resultAt Fits s index incoming o = madeResult s index incoming o
 resultAt (Refused r) s index incoming o = refusedOrder r s
 
 unfoldable pub orderOps : ℕ → State → Events → ℕ → Bool → Order → List Op
-orderOps n s e index incoming o = opsAt (orderCheck n s e) s index incoming o
+orderOps n s e index incoming o = obeyedOps (orderCheck n s e) (s .powered) index incoming o (slotOf s index incoming)
 
 unfoldable pub orderResult : ℕ → State → Events → ℕ → Bool → Order → OrderResult
 orderResult n s e index incoming o = resultAt (orderCheck n s e) s index incoming o
@@ -121,6 +134,48 @@ abbrev pub orderNumber : OrderAnswer → ℕ
 orderNumber order.Ordered = 0
 orderNumber (order.Refused r) = refusalNumber r
 
+-- an order on the slot by itself
+abbrev pub madeAt : Bool → ℕ → Bool → Order → Slot → Obeyed
+madeAt powered index incoming o x =
+    record {
+      answer = order.Ordered;
+      slot = cond (fitSlot powered index o x) (orderedSlot o x) x;
+      end = length (flat (madeOps powered index incoming o x));
+      wakes = orderWakes index incoming;
+    }
+
+abbrev pub obeyedAt : Check → Bool → ℕ → Bool → Order → Slot → Obeyed
+obeyedAt Fits powered index incoming o x = madeAt powered index incoming o x
+obeyedAt (Refused r) powered index incoming o x = record { answer = order.Refused r; slot = x; end = 0; wakes = noWakes }
+
+abbrev pub stored : State → ℕ → Obeyed → OrderResult
+stored s i t = record { state = withSlot s i (t .slot); answer = t .answer; end = t .end; wakes = t .wakes }
+
+-- stored in the endpoint's place it is the order on the state: one that does nothing leaves what stands there
+made-stored : (s : State) (index : ℕ) (incoming : Bool) (o : Order)
+    → (stored s (slotPlace index incoming) (madeAt (s .powered) index incoming o (slotAt s (slotPlace index incoming))) ≡ madeResult s index incoming o)
+    × (madeOps (s .powered) index incoming o (slotAt s (slotPlace index incoming)) ≡ madeOps (s .powered) index incoming o (slotOf s index incoming))
+made-stored s index incoming o = go (dataEndpoint index) refl
+  where
+    j : ℕ
+    j = slotPlace index incoming
+
+    kept : (b : Bool) (i : ℕ) (y : Slot) → withSlot s i (cond b y (slotAt s i)) ≡ cond b (withSlot s i y) s
+    kept true i y = refl
+    kept false i y = rw (set-own (s .endpoints) i freshSlot)
+
+    go : (b : Bool) → dataEndpoint index ≡ b
+        → (stored s j (madeAt (s .powered) index incoming o (slotAt s j)) ≡ madeResult s index incoming o)
+        × (madeOps (s .powered) index incoming o (slotAt s j) ≡ madeOps (s .powered) index incoming o (slotOf s index incoming))
+    go true d = rw (data-place index incoming d) (rw (kept (fit s index incoming o) (slotNumber index incoming) (orderedSlot o (slotOf s index incoming))), refl)
+    go false d = rw (d, set-own (s .endpoints) j freshSlot) (refl, refl)
+
+order-stored : (c : Check) (s : State) (index : ℕ) (incoming : Bool) (o : Order)
+    → (stored s (slotPlace index incoming) (obeyedAt c (s .powered) index incoming o (slotAt s (slotPlace index incoming))) ≡ resultAt c s index incoming o)
+    × (obeyedOps c (s .powered) index incoming o (slotAt s (slotPlace index incoming)) ≡ obeyedOps c (s .powered) index incoming o (slotOf s index incoming))
+order-stored Fits s index incoming o = made-stored s index incoming o
+order-stored (Refused r) s index incoming o = (rw (set-own (s .endpoints) (slotPlace index incoming) freshSlot), refl)
+
 -- all that is promised of an order
 abbrev pub Told : OrderResult → List ℕ → List ℕ → State → Events → ℕ → Bool → Order → Type 0
 Told r before after s e index incoming o =
@@ -128,16 +183,19 @@ Told r before after s e index incoming o =
     × ((Wrote before 0 (orderOps (length before) s e index incoming o) (r .end) after)
     × (orderNumber (r .answer) ≡ checkNumber (orderCheck (length before) s e)))
 
--- by what the tests came to
-pub order-told : (c : Check) (r : OrderResult) (before after : List ℕ) (s : State) (e : Events) (index : ℕ) (incoming : Bool) (o : Order)
-    → orderCheck (length before) s e ≡ c → r ≡ resultAt c s index incoming o → Wrote before 0 (opsAt c s index incoming o) (r .end) after
-    → Told r before after s e index incoming o
+-- it is kept where what the order comes to for the slot is stored in its place
+pub order-told : (t : Obeyed) (before after : List ℕ) (s : State) (e : Events) (index : ℕ) (incoming : Bool) (o : Order)
+    → t ≡ obeyedAt (orderCheck (length before) s e) (s .powered) index incoming o (slotAt s (slotPlace index incoming))
+    → Wrote before 0 (obeyedOps (orderCheck (length before) s e) (s .powered) index incoming o (slotAt s (slotPlace index incoming))) (t .end) after
+    → Told (stored s (slotPlace index incoming) t) before after s e index incoming o
 unfolding orderResult orderOps
-order-told c r before after s e index incoming o h q w = (rw h q, (rw h w, rw (q, h) (number c)))
+order-told t before after s e index incoming o h w =
+    let k = order-stored (orderCheck (length before) s e) s index incoming o in
+    (rw h (k .0), (same (k .1) w, rw h (number (orderCheck (length before) s e) (slotAt s (slotPlace index incoming)))))
   where
-    number : (c : Check) → orderNumber (resultAt c s index incoming o .answer) ≡ checkNumber c
-    number Fits = refl
-    number (Refused t) = refl
+    number : (c : Check) (x : Slot) → orderNumber (obeyedAt c (s .powered) index incoming o x .answer) ≡ checkNumber c
+    number Fits x = refl
+    number (Refused r) x = refl
 
 -- Each refusal is given exactly where it is the first that is due, and none where none is.
 pub order-bound : (n : ℕ) (s : State) (e : Events) → Bound (orderDues n s e) (orderCheck n s e)

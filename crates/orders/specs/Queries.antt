@@ -3,15 +3,20 @@
 -- Assumes nothing.
 use Prim.Native.Nat.{ℕ}
 use mathlib.Core.Path.{_≡_, refl}
-use mathlib.Core.Bool.{Bool, _&&_, not}
+use mathlib.Core.Bool.{Bool, true, false, _&&_, not}
 use mathlib.Core.List.{List, [], _∷_}
+use native.Mathlib.Omega.{arith}
+use borrow.Author.Tests.{ltb-true}
 use lib.Dec.{ltb}
 use Rattle.ops.specs.Ops.{bit}
+use Rattle.state.specs.declared.Slot.{Slot}
 use Rattle.state.specs.declared.State.{State}
 use Rattle.state.specs.declared.Events.{Events}
 use Rattle.state.specs.declared.Refusal.the-variants.{Unsound, OutOfTurn}
 use Rattle.state.specs.declared.Check.{Check}
 use Rattle.state.specs.declared.Check.the-variants.{Fits, Refused}
+use Rattle.state.specs.Fresh.{slotAt}
+use Rattle.slots.specs.Slots.{slotPlace, own-place}
 use Rattle.state.specs.Awaiting.{awaitingb}
 use Rattle.state.specs.Numbers.{refusalNumber}
 use Rattle.state.specs.Refusals.{Due, _if_, firstDue, Bound, bound}
@@ -27,6 +32,15 @@ stalledb s index incoming = ltb index 8 && slotOf s index incoming .stalled
 -- nothing is enabled while unpowered
 unfoldable pub enabledb : State → ℕ → Bool → Bool
 enabledb s index incoming = ltb index 8 && (s .powered && slotOf s index incoming .enabled)
+
+-- of endpoints 0 to 7 the slot that stands in the endpoint's place is its own, and no other is asked
+pub asked-place : (f : Slot → Bool) (s : State) (index : ℕ) (incoming : Bool)
+    → (ltb index 8 && f (slotAt s (slotPlace index incoming))) ≡ (ltb index 8 && f (slotOf s index incoming))
+asked-place f s index incoming = go (ltb index 8) refl
+  where
+    go : (b : Bool) → ltb index 8 ≡ b → (b && f (slotAt s (slotPlace index incoming))) ≡ (b && f (slotOf s index incoming))
+    go true h = rw (own-place index incoming (omega (arith, ltb-true index 8 h)))
+    go false h = refl
 
 -- a query is lent no list
 abbrev pub queryDues : State → Events → List Due

@@ -5,9 +5,12 @@ ghost use lib.ListN.{length};
 ghost use Rattle.ops.specs.Ops.{records};
 ghost use Rattle.ops.specs.Wrote.{Wrote};
 ghost use Rattle.state.specs.Numbers.{checkNumber};
-ghost use Rattle.orders.specs.Orders.{isochronous, ready, orderedSlot, orderedOps, orderWakes, madeOps, madeResult, refusedOrder, orderCheck, orderOps, orderResult, orderNumber};
+ghost use Rattle.state.specs.declared.Check.the-variants.{Fits};
+ghost use Rattle.sound.specs.Turn.{turnOf, admittedOf};
+ghost use Rattle.orders.specs.Orders.{isochronous, ready, orderedSlot, orderedOps, orderWakes, madeOps, madeAt, obeyedOps, obeyedAt, orderCheck, orderOps, orderResult, orderNumber};
 ghost use Rattle.orders.specs.declared.Order.the-variants.{Stall, Enable};
-ghost use Rattle.orders.specs.Queries.{stalledb, enabledb, queryCheck, queryAnswer, queryNumbers, numbersAt};
+ghost use Rattle.orders.specs.Queries.{stalledb, enabledb, queryCheck, answerAt, queryAnswer, queryNumbers, numbersAt};
+use state::Awaited;
 use state::Check;
 use state::EndpointType;
 use state::Events;
@@ -29,10 +32,17 @@ pub enum OrderAnswer {
 
 // `end`: how many numbers of the list are taken.
 pub struct OrderResult {
-    pub answer: OrderAnswer,
     pub state: State,
+    pub answer: OrderAnswer,
     pub end: usize,
     pub wakes: Wakes,
+}
+
+struct Obeyed {
+    answer: OrderAnswer,
+    slot: Slot,
+    end: usize,
+    wakes: Wakes,
 }
 
 pub enum QueryAnswer {
@@ -122,64 +132,58 @@ fn ordered_ops(ops: &mut [u32], index: u32, incoming: bool, x: Slot, order: Orde
 }
 
 // An order that isn't refused.
-fn make(ops: &mut [u32], state: State, index: u8, incoming: bool, order: Order) -> OrderResult
+fn make(ops: &mut [u32], powered: bool, index: u8, incoming: bool, order: Order, x: Slot) -> Obeyed
     requires { ⌜ 640 ≤ length (now ops) ⌝ }
-    ensures result { λ r. ⌜ r ≡ madeResult state index incoming order ⌝ }
-    ensures list { λ r. ⌜ Wrote (now (ops .entry)) 0 (madeOps state index incoming order) (r .end) (now (ops .exit)) ⌝ }
+    ensures result { λ r. ⌜ r ≡ madeAt powered index incoming order x ⌝ }
+    ensures list { λ r. ⌜ Wrote (now (ops .entry)) 0 (madeOps powered index incoming order x) (r .end) (now (ops .exit)) ⌝ }
 {
     let wakes = wakes_of(index, incoming);
     let there = slots::is_data_endpoint(index);
-    let i = slots::slot_number(index, incoming);
-    let x = slots::slot_at(state, i);
     let ready = is_ready(order, x.enabled);
-    let y = ordered_slot(order, x);
-    let s = slots::with_slot(state, i, y);
-    if there & (state.powered & x.configured) & ready {
+    if there & (powered & x.configured) & ready {
         let end = ordered_ops(ops, index as u32, incoming, x, order);
-        return OrderResult {
+        let y = ordered_slot(order, x);
+        return Obeyed {
             answer: OrderAnswer::Ordered,
-            state: s,
+            slot: y,
             end: end,
             wakes: wakes,
         };
     }
-    OrderResult {
+    Obeyed {
         answer: OrderAnswer::Ordered,
-        state: state,
+        slot: x,
         end: 0,
         wakes: wakes, // also where nothing is done
     }
 }
 
-fn refused(refusal: Refusal, state: State) -> OrderResult
-    ensures { λ r. ⌜ r ≡ refusedOrder refusal state ⌝ }
-{
-    let wakes = slots::waking::no_wakes();
-    OrderResult {
-        answer: OrderAnswer::Refused(refusal),
-        state: state,
-        end: 0,
-        wakes: wakes,
-    }
-}
-
-// An order, refused or made.
+// What an order, refused or made, says of a slot, leaves of it and writes.
 fn obey(
     ops: &mut [u32],
-    state: State,
-    events: Events,
+    good: bool,
+    awaited: Awaited,
+    powered: bool,
     index: u8,
     incoming: bool,
     order: Order,
-) -> OrderResult
-    ensures result { λ r. ⌜ r ≡ orderResult (length (now (ops .entry))) state events index incoming order ⌝ }
-    ensures list { λ r. ⌜ Wrote (now (ops .entry)) 0 (orderOps (length (now (ops .entry))) state events index incoming order) (r .end) (now (ops .exit)) ⌝ }
-    ensures number { λ r. ⌜ orderNumber (r .answer) ≡ checkNumber (orderCheck (length (now (ops .entry))) state events) ⌝ }
+    x: Slot,
+) -> Obeyed
+    ensures result { λ r. ⌜ r ≡ obeyedAt (admittedOf (length (now (ops .entry))) good (awaited .next) Fits) powered index incoming order x ⌝ }
+    ensures list { λ r. ⌜ Wrote (now (ops .entry)) 0 (obeyedOps (admittedOf (length (now (ops .entry))) good (awaited .next) Fits) powered index incoming order x) (r .end) (now (ops .exit)) ⌝ }
 {
-    let check = sound::admit(ops.len(), state, events, Check::Fits);
+    let check = sound::admit(ops.len(), good, awaited, Check::Fits);
     match check {
-        Check::Fits => make(ops, state, index, incoming, order),
-        Check::Refused(refusal) => refused(refusal, state),
+        Check::Fits => make(ops, powered, index, incoming, order, x),
+        Check::Refused(refusal) => {
+            let wakes = slots::waking::no_wakes();
+            Obeyed {
+                answer: OrderAnswer::Refused(refusal),
+                slot: x,
+                end: 0,
+                wakes: wakes,
+            }
+        }
     }
 }
 
@@ -196,7 +200,23 @@ pub fn endpoint_set_stalled(
     ensures list { λ r. ⌜ Wrote (now (ops .entry)) 0 (orderOps (length (now (ops .entry))) state events index incoming (Stall stalled)) (r .end) (now (ops .exit)) ⌝ }
     ensures number { λ r. ⌜ orderNumber (r .answer) ≡ checkNumber (orderCheck (length (now (ops .entry))) state events) ⌝ }
 {
-    obey(ops, state, events, index, incoming, Order::Stall(stalled))
+    let mut s = state;
+    let good = sound::sound(s, events);
+    let awaited = s.awaited;
+    let i = slots::slot_place(index, incoming);
+    let x = s.endpoints[i];
+    let order = Order::Stall(stalled);
+    let o = obey(ops, good, awaited, s.powered, index, incoming, order, x);
+    let y = o.slot;
+    let answer = o.answer;
+    let wakes = o.wakes;
+    s.endpoints[i] = y;
+    OrderResult {
+        state: s,
+        answer: answer,
+        end: o.end,
+        wakes: wakes,
+    }
 }
 
 // Switches an endpoint on or off. What is in hand there is cut.
@@ -212,14 +232,29 @@ pub fn endpoint_set_enabled(
     ensures list { λ r. ⌜ Wrote (now (ops .entry)) 0 (orderOps (length (now (ops .entry))) state events index incoming (Enable enabled)) (r .end) (now (ops .exit)) ⌝ }
     ensures number { λ r. ⌜ orderNumber (r .answer) ≡ checkNumber (orderCheck (length (now (ops .entry))) state events) ⌝ }
 {
-    obey(ops, state, events, index, incoming, Order::Enable(enabled))
+    let mut s = state;
+    let good = sound::sound(s, events);
+    let awaited = s.awaited;
+    let i = slots::slot_place(index, incoming);
+    let x = s.endpoints[i];
+    let order = Order::Enable(enabled);
+    let o = obey(ops, good, awaited, s.powered, index, incoming, order, x);
+    let y = o.slot;
+    let answer = o.answer;
+    let wakes = o.wakes;
+    s.endpoints[i] = y;
+    OrderResult {
+        state: s,
+        answer: answer,
+        end: o.end,
+        wakes: wakes,
+    }
 }
 
-fn answer(state: State, events: Events, says: bool) -> QueryAnswer
-    ensures result { λ r. ⌜ r ≡ queryAnswer state events says ⌝ }
-    ensures numbers { λ r. ⌜ queryNumbers r ≡ numbersAt (queryCheck state events) says ⌝ }
+fn answer(good: bool, awaited: Awaited, says: bool) -> QueryAnswer
+    ensures { λ r. ⌜ r ≡ answerAt (turnOf good (awaited .next) Fits) says ⌝ }
 {
-    let check = sound::in_turn(state, events, Check::Fits);
+    let check = sound::turn_of(good, awaited, Check::Fits);
     match check {
         Check::Fits => QueryAnswer::Says(says),
         Check::Refused(refusal) => QueryAnswer::Refused(refusal),
@@ -230,16 +265,22 @@ pub fn is_stalled(state: State, events: Events, index: u8, incoming: bool) -> Qu
     ensures result { λ r. ⌜ r ≡ queryAnswer state events (stalledb state index incoming) ⌝ }
     ensures numbers { λ r. ⌜ queryNumbers r ≡ numbersAt (queryCheck state events) (stalledb state index incoming) ⌝ }
 {
-    let i = slots::slot_number(index, incoming);
-    let x = slots::slot_at(state, i);
-    answer(state, events, (index < 8) & x.stalled)
+    let awaited = state.awaited;
+    let i = slots::slot_place(index, incoming);
+    let x = state.endpoints[i];
+    let says = (index < 8) & x.stalled;
+    let good = sound::sound(state, events);
+    answer(good, awaited, says)
 }
 
 pub fn is_enabled(state: State, events: Events, index: u8, incoming: bool) -> QueryAnswer
     ensures result { λ r. ⌜ r ≡ queryAnswer state events (enabledb state index incoming) ⌝ }
     ensures numbers { λ r. ⌜ queryNumbers r ≡ numbersAt (queryCheck state events) (enabledb state index incoming) ⌝ }
 {
-    let i = slots::slot_number(index, incoming);
-    let x = slots::slot_at(state, i);
-    answer(state, events, (index < 8) & (state.powered & x.enabled))
+    let awaited = state.awaited;
+    let i = slots::slot_place(index, incoming);
+    let x = state.endpoints[i];
+    let says = (index < 8) & (state.powered & x.enabled);
+    let good = sound::sound(state, events);
+    answer(good, awaited, says)
 }

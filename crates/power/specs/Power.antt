@@ -47,6 +47,16 @@ onStep s revision =
       ops = cond (s .powered) [] (powerOnOps revision (s .«ep0_address»));
     }
 
+-- by whether the device is on
+pub on-already : (s : State) (revision : ℕ) → s .powered ≡ true → (s ≡ onStep s revision .state) × ([] ≡ onStep s revision .ops)
+unfolding onStep
+on-already s revision h = (rw h, rw h)
+
+pub on-anew : (s : State) (revision : ℕ) → s .powered ≡ false
+    → (resetWith s true revision false ≡ onStep s revision .state) × (powerOnOps revision (s .«ep0_address») ≡ onStep s revision .ops)
+unfolding onStep
+on-anew s revision h = (rw h, rw h)
+
 -- the longest list of all
 pub on-length : (s : State) (revision : ℕ) → s .powered ≡ false → length (flat (onStep s revision .ops)) ≡ records 127
 unfolding onStep
@@ -67,12 +77,6 @@ offStep s = record { answer = power.Off; state = offState s; ops = shutOps (s .p
 abbrev pub madeResult : Step → PowerResult
 madeResult t = record { answer = t .answer; state = t .state; end = length (flat (t .ops)); wakes = wakeAll }
 
-pub made : {before after : List ℕ} {end : ℕ} (s : State) (w : Wakes) (t : Step) → s ≡ t .state → w ≡ wakeAll → Wrote before 0 (t .ops) end after
-    → (record { answer = t .answer; state = s; end = end; wakes = w } ≡ madeResult t) × (Wrote before 0 (t .ops) end after)
-made {end = end} s w t q v wrote =
-    let n : end ≡ length (flat (t .ops)) = omega (arith, wrote .end) in
-    (rw (q, v, n), wrote)
-
 abbrev pub refusedPower : Refusal → State → PowerResult
 refusedPower r s = record { answer = power.Refused r; state = s; end = 0; wakes = noWakes }
 
@@ -84,15 +88,17 @@ abbrev pub resultAt : Check → State → Step → PowerResult
 resultAt Fits s t = madeResult t
 resultAt (Refused r) s t = refusedPower r s
 
--- n is how many numbers the list has room for. The revision has 4 bits; before the first start endpoint 0 has no memory.
+-- 11 and 22: the revision has 4 bits; before the first start endpoint 0 has no memory
+abbrev pub ownDues : ℕ → ℕ → List Due
+ownDues revision memory = OutOfRange if ltb 15 revision ∷ Disabled if eqb memory 0 ∷ []
+
+-- n is how many numbers the list has room for
 abbrev pub onDues : ℕ → State → Events → ℕ → List Due
 onDues n s e revision =
     ListTooShort if ltb n 640
     ∷ Unsound if not (soundb s e)
     ∷ OutOfTurn if awaitingb (s .awaited .next)
-    ∷ OutOfRange if ltb 15 revision
-    ∷ Disabled if eqb (s .«ep0_address») 0
-    ∷ []
+    ∷ ownDues revision (s .«ep0_address»)
 
 unfoldable pub onCheck : ℕ → State → Events → ℕ → Check
 onCheck n s e revision = firstDue (onDues n s e revision)
@@ -139,9 +145,11 @@ abbrev pub Told : PowerResult → List ℕ → List ℕ → Check → State → 
 Told r before after check s t =
     (r ≡ resultAt check s t) × ((Wrote before 0 (opsAt check t) (r .end) after) × (powerNumber (r .answer) ≡ checkNumber check))
 
-pub told-made : (r : PowerResult) (before after : List ℕ) (check : Check) (s : State) (t : Step) → check ≡ Fits → powerNumber (t .answer) ≡ 0
-    → r ≡ madeResult t → Wrote before 0 (t .ops) (r .end) after → Told r before after check s t
-told-made r before after check s t h z q w = (rw h q, (rw h w, rw (h, q, z)))
+pub told-made : {before after : List ℕ} {end : ℕ} (check : Check) (s₀ s : State) (w : Wakes) (t : Step) → check ≡ Fits → powerNumber (t .answer) ≡ 0 → s ≡ t .state → w ≡ wakeAll
+    → Wrote before 0 (t .ops) end after → Told (record { state = s; answer = t .answer; end = end; wakes = w }) before after check s₀ t
+told-made {end = end} check s₀ s w t h z q v wrote =
+    let n : end ≡ length (flat (t .ops)) = omega (arith, wrote .end) in
+    (rw (h, q, v, n), (rw h wrote, rw (h, z)))
 
 pub told-refused : (r : PowerResult) (l : List ℕ) (check : Check) (s : State) (t : Step) (q : Refusal) → check ≡ Refused q
     → r ≡ refusedPower q s → Told r l l check s t

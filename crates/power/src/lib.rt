@@ -4,7 +4,10 @@ ghost use Prim.Native.Nat.{_≤_};
 ghost use lib.ListN.{length};
 ghost use Rattle.ops.specs.Wrote.{Wrote};
 ghost use Rattle.state.specs.Numbers.{checkNumber};
-ghost use Rattle.power.specs.Power.{onStep, shutOps, offStep, madeResult, refusedPower, onCheck, offCheck, powerOnResult, powerOnList, powerOffResult, powerOffList, powerNumber};
+ghost use Rattle.state.specs.Refusals.{firstDue};
+ghost use Rattle.sound.specs.Turn.{admittedOf};
+ghost use Rattle.power.specs.Power.{shutOps, ownDues, onCheck, offCheck, powerOnResult, powerOnList, powerOffResult, powerOffList, powerNumber};
+use state::Awaited;
 use state::Check;
 use state::Events;
 use state::Refusal;
@@ -19,40 +22,10 @@ pub enum PowerAnswer {
 
 // `end`: how many numbers of the list are taken.
 pub struct PowerResult {
-    pub answer: PowerAnswer,
     pub state: State,
+    pub answer: PowerAnswer,
     pub end: usize,
     pub wakes: Wakes,
-}
-
-// A power-on that isn't refused.
-fn switch_on(ops: &mut [u32], state: State, revision: u32) -> PowerResult
-    requires room { ⌜ 640 ≤ length (now ops) ⌝ }
-    requires bits { ⌜ revision ≤ 15 ⌝ }
-    ensures result { λ r. ⌜ r ≡ madeResult (onStep state revision) ⌝ }
-    ensures list { λ r. ⌜ Wrote (now (ops .entry)) 0 (onStep state revision .ops) (r .end) (now (ops .exit)) ⌝ }
-{
-    let wakes = slots::waking::wake_all();
-    if state.powered {
-        return PowerResult {
-            answer: PowerAnswer::Powered,
-            state: state,
-            end: 0,
-            wakes: wakes,
-        };
-    }
-    let a = regs_link::init(ops, 0, revision);
-    let reset = reset::bus_reset(ops, a, state);
-    let mut s = reset.state;
-    s.revision = revision as u8;
-    s.powered = true;
-    s.reset_seen = false;
-    PowerResult {
-        answer: PowerAnswer::Powered,
-        state: s,
-        end: reset.end,
-        wakes: wakes,
-    }
 }
 
 // The registers of a device that is on are shut down.
@@ -66,49 +39,12 @@ fn shut(ops: &mut [u32], powered: bool) -> usize
     0
 }
 
-// A power-off that isn't refused.
-fn switch_off(ops: &mut [u32], state: State) -> PowerResult
-    requires { ⌜ 640 ≤ length (now ops) ⌝ }
-    ensures result { λ r. ⌜ r ≡ madeResult (offStep state) ⌝ }
-    ensures list { λ r. ⌜ Wrote (now (ops .entry)) 0 (offStep state .ops) (r .end) (now (ops .exit)) ⌝ }
+fn on_check(room: usize, good: bool, awaited: Awaited, ep0_address: u32, revision: u32) -> Check
+    ensures { λ r. ⌜ r ≡ admittedOf room good (awaited .next) (firstDue (ownDues revision «ep0_address»)) ⌝ }
 {
-    let wakes = slots::waking::wake_all();
-    let end = shut(ops, state.powered);
-    let mut s = reset::reset_all(state);
-    s.powered = false;
-    s.has_setup = false; // a SETUP that nobody has fetched
-    PowerResult {
-        answer: PowerAnswer::Off,
-        state: s,
-        end: end,
-        wakes: wakes,
-    }
-}
-
-fn refused(refusal: Refusal, state: State) -> PowerResult
-    ensures { λ r. ⌜ r ≡ refusedPower refusal state ⌝ }
-{
-    let wakes = slots::waking::no_wakes();
-    PowerResult {
-        answer: PowerAnswer::Refused(refusal),
-        state: state,
-        end: 0,
-        wakes: wakes,
-    }
-}
-
-fn on_check(room: usize, state: State, events: Events, revision: u32) -> Check
-    ensures { λ r. ⌜ r ≡ onCheck room state events revision ⌝ }
-{
-    let started = state::refusals::first(state.ep0_address == 0, Refusal::Disabled, Check::Fits);
+    let started = state::refusals::first(ep0_address == 0, Refusal::Disabled, Check::Fits);
     let own = state::refusals::first(15 < revision, Refusal::OutOfRange, started);
-    sound::admit(room, state, events, own)
-}
-
-fn off_check(room: usize, state: State, events: Events) -> Check
-    ensures { λ r. ⌜ r ≡ offCheck room state events ⌝ }
-{
-    sound::admit(room, state, events, Check::Fits)
+    sound::admit(room, good, awaited, own)
 }
 
 // Brings the link up and resets the bus. `revision` is the chip's, which the caller has read.
@@ -117,10 +53,38 @@ pub fn power_on(ops: &mut [u32], state: State, events: Events, revision: u32) ->
     ensures list { λ r. ⌜ Wrote (now (ops .entry)) 0 (powerOnList (length (now (ops .entry))) state events revision) (r .end) (now (ops .exit)) ⌝ }
     ensures number { λ r. ⌜ powerNumber (r .answer) ≡ checkNumber (onCheck (length (now (ops .entry))) state events revision) ⌝ }
 {
-    let check = on_check(ops.len(), state, events, revision);
-    match check {
-        Check::Fits => switch_on(ops, state, revision),
-        Check::Refused(refusal) => refused(refusal, state),
+    let good = sound::sound(state, events);
+    let awaited = state.awaited;
+    let check = on_check(ops.len(), good, awaited, state.ep0_address, revision);
+    if let Check::Refused(refusal) = check {
+        let wakes = slots::waking::no_wakes();
+        return PowerResult {
+            state: state,
+            answer: PowerAnswer::Refused(refusal),
+            end: 0,
+            wakes: wakes,
+        };
+    }
+    let wakes = slots::waking::wake_all();
+    if state.powered {
+        return PowerResult {
+            state: state,
+            answer: PowerAnswer::Powered,
+            end: 0,
+            wakes: wakes,
+        };
+    }
+    let a = regs_link::init(ops, 0, revision);
+    let reset = reset::bus_reset(ops, a, state);
+    let mut s = reset.state;
+    s.revision = revision as u8;
+    s.powered = true;
+    s.reset_seen = false;
+    PowerResult {
+        state: s,
+        answer: PowerAnswer::Powered,
+        end: reset.end,
+        wakes: wakes,
     }
 }
 
@@ -130,9 +94,34 @@ pub fn power_off(ops: &mut [u32], state: State, events: Events) -> PowerResult
     ensures list { λ r. ⌜ Wrote (now (ops .entry)) 0 (powerOffList (length (now (ops .entry))) state events) (r .end) (now (ops .exit)) ⌝ }
     ensures number { λ r. ⌜ powerNumber (r .answer) ≡ checkNumber (offCheck (length (now (ops .entry))) state events) ⌝ }
 {
-    let check = off_check(ops.len(), state, events);
-    match check {
-        Check::Fits => switch_off(ops, state),
-        Check::Refused(refusal) => refused(refusal, state),
+    let mut s = state;
+    let good = sound::sound(s, events);
+    let awaited = s.awaited;
+    let check = sound::admit(ops.len(), good, awaited, Check::Fits);
+    if let Check::Refused(refusal) = check {
+        let wakes = slots::waking::no_wakes();
+        return PowerResult {
+            state: s,
+            answer: PowerAnswer::Refused(refusal),
+            end: 0,
+            wakes: wakes,
+        };
+    }
+    let wakes = slots::waking::wake_all();
+    let end = shut(ops, s.powered);
+    let mut i: usize = 0;
+    while i < 16 {
+        let x = s.endpoints[i];
+        let y = slots::reset(x, 2 <= i, false);
+        s.endpoints[i] = y;
+        i = i + 1;
+    }
+    s.powered = false;
+    s.has_setup = false; // a SETUP that nobody has fetched
+    PowerResult {
+        state: s,
+        answer: PowerAnswer::Off,
+        end: end,
+        wakes: wakes,
     }
 }

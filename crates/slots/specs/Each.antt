@@ -128,6 +128,16 @@ set-next k f (suc n) (x ∷ l) d =
 pub change-next : {A : Type 0} (f : ℕ → A → A) (n : ℕ) (l : List A) (d : A) → set (change f n l) n (f n (getD l n d)) ≡ change f (n + 1) l
 change-next f n l d = rw (add-one n) (rw (zero-add n) at (set-next 0 f n l d))
 
+change-from-not-yet : {A : Type 0} (k : ℕ) (f : ℕ → A → A) (n : ℕ) (l : List A) (d : A) → getD (changeFrom k f n l) n d ≡ getD l n d
+unfolding changeFrom
+change-from-not-yet k f zero l d = refl
+change-from-not-yet k f (suc n) [] d = refl
+change-from-not-yet k f (suc n) (x ∷ l) d = change-from-not-yet (suc k) f n l d
+
+-- which is as it was until then
+pub change-not-yet : {A : Type 0} (f : ℕ → A → A) (n : ℕ) (l : List A) (d : A) → getD (change f n l) n d ≡ getD l n d
+change-not-yet f n l d = change-from-not-yet 0 f n l d
+
 change-from-at : {A : Type 0} (k : ℕ) (f : ℕ → A → A) (n : ℕ) (l : List A) (i : ℕ) (d : A) → i < n → i < length l → getD (changeFrom k f n l) i d ≡ f (k + i) (getD l i d)
 unfolding changeFrom
 change-from-at k f zero l i d h b = absurd (omega (arith, h))

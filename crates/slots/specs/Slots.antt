@@ -4,7 +4,8 @@ use Prim.Native.Nat.{ℕ, _+_, _*_, _%_, _^_, _≤_}
 use native.Mathlib.Omega.{arith}
 use mathlib.Core.Bool.{Bool, true, false, _&&_, not}
 use mathlib.Core.List.{List}
-use mathlib.Core.Path.{_≡_}
+use mathlib.Core.Path.{_≡_, ap, _∙_}
+use borrow.Author.Tests.{leb-true}
 use lib.Dec.{leb}
 use lib.ListN.{length, set, List·getD-eq-default}
 use Rattle.ops.specs.Ops.{bit}
@@ -14,7 +15,7 @@ use Rattle.state.specs.declared.Tally.{Tally}
 use Rattle.state.specs.declared.Slot.{Slot}
 use Rattle.state.specs.declared.State.{State}
 use Rattle.state.specs.Fresh.{freshSlot, slotAt}
-use Rattle.slots.specs.Each.{change, change-none, change-next}
+use Rattle.slots.specs.Each.{change, change-none, change-next, change-not-yet, and-right}
 
 abbrev pub idleb : Phase → Bool
 idleb Idle = true
@@ -33,6 +34,10 @@ slotNumber index incoming = index * 2 + bit incoming
 -- the endpoints that have transfers, 1–7
 abbrev pub dataEndpoint : ℕ → Bool
 dataEndpoint e = leb 1 e && leb e 7
+
+-- one of the sixteen places
+abbrev pub slotPlace : ℕ → Bool → ℕ
+slotPlace e incoming = slotNumber e incoming % 16
 
 -- a cut transfer adds itself and its progress, modulo 2^32
 abbrev pub tallyCut : Tally → Bool → ℕ → Tally
@@ -58,6 +63,13 @@ resetSlot x tallied enabled = forgotten x tallied enabled false
 pub bit-small : (b : Bool) → bit b ≤ 1
 bit-small true = omega arith
 bit-small false = omega arith
+
+-- the slots of endpoints 0 to 7 have their own places
+pub own-place : (e : ℕ) (incoming : Bool) → e ≤ 7 → slotPlace e incoming ≡ slotNumber e incoming
+own-place e incoming h = omega (arith, h, bit-small incoming)
+
+pub data-place : (e : ℕ) (incoming : Bool) → dataEndpoint e ≡ true → slotPlace e incoming ≡ slotNumber e incoming
+data-place e incoming h = own-place e incoming (leb-true e 7 (and-right (leb 1 e) (leb e 7) h))
 
 -- the state with other slots, EP0 memory, power, waiting SETUP and slots to wake
 abbrev pub stateWith : State → List Slot → ℕ → Bool → Bool → ℕ → State
@@ -100,3 +112,8 @@ change-none-of f s = rw (change-none f (s .endpoints))
 pub change-next-of : (f : ℕ → Slot → Slot) (s₀ s : State) (i : ℕ) (y : Slot) → s ≡ withSlots s₀ (change f i (s₀ .endpoints)) → y ≡ f i (slotAt s₀ i)
     → withSlot s i y ≡ withSlots s₀ (change f (i + 1) (s₀ .endpoints))
 change-next-of f s₀ s i y h e = rw (h, e, change-next f i (s₀ .endpoints) freshSlot)
+
+-- the same where the loop reads the state that it changes
+pub change-next-in : (f : ℕ → Slot → Slot) (s₀ s : State) (i : ℕ) (y : Slot) → s ≡ withSlots s₀ (change f i (s₀ .endpoints)) → y ≡ f i (slotAt s i)
+    → withSlot s i y ≡ withSlots s₀ (change f (i + 1) (s₀ .endpoints))
+change-next-in f s₀ s i y h e = change-next-of f s₀ s i y h (e ∙ ap (f i) (rw h (change-not-yet f i (s₀ .endpoints) freshSlot)))

@@ -1,6 +1,6 @@
 // One slot: its number, its phase, and how it forgets its transfer.
 ghost use mathlib.Core.Path.{_≡_};
-ghost use Rattle.slots.specs.Slots.{idleb, busyb, slotNumber, dataEndpoint, tallyCut, forgotten, resetSlot, withSlot};
+ghost use Rattle.slots.specs.Slots.{idleb, busyb, slotNumber, slotPlace, dataEndpoint, tallyCut, forgotten, resetSlot, withSlot};
 ghost use Rattle.state.specs.Fresh.{slotAt};
 use state::Phase;
 use state::Slot;
@@ -34,6 +34,15 @@ pub fn slot_number(index: u8, incoming: bool) -> usize
     ensures { λ r. ⌜ r ≡ slotNumber index incoming ⌝ }
 {
     (index as usize) * 2 + incoming as usize
+}
+
+// Where an endpoint's slot stands among the sixteen. One that has none is given some other's place, so that a call can
+// look there without a test; it then refuses the endpoint, or leaves what stands there.
+pub fn slot_place(index: u8, incoming: bool) -> usize
+    ensures { λ r. ⌜ r ≡ slotPlace index incoming ⌝ }
+{
+    let number = slot_number(index, incoming);
+    number % 16
 }
 
 // Whether an endpoint has transfers.

@@ -27,6 +27,10 @@ aligned address = eqb (address % 4) 0
 abbrev pub multiple : ℕ → ℕ → Bool
 multiple n m = ltb 0 m && eqb (n % m) 0
 
+-- room for whole packets of m bytes, one at least
+abbrev pub wholePackets : ℕ → ℕ → Bool
+wholePackets n m = ltb 0 n && multiple n m
+
 abbrev pub packetSize : ℕ → Bool
 packetSize m = leb 1 m && leb m 1024
 
@@ -49,7 +53,7 @@ configClauses =
     -- own buffer unaligned
     ∷ (λ i configured k. not configured || aligned (k .buffer .address))
     -- own buffer no positive multiple of M long
-    ∷ (λ i configured k. not configured || (ltb 0 (k .buffer .size) && multiple (k .buffer .size) (k .«max_packet_size»)))
+    ∷ (λ i configured k. not configured || wholePackets (k .buffer .size) (k .«max_packet_size»))
     ∷ []
 
 abbrev pub useClauses : Bool → List (ℕ → Slot → Bool)
@@ -80,7 +84,7 @@ transferClauses =
     -- busy transfer that isn't 4-aligned
     ∷ (λ i x. calm i x || aligned (x .transfer .address))
     -- busy OUT transfer whose length isn't a positive multiple of M
-    ∷ (λ i x. calmOut i x || (ltb 0 (x .transfer .length) && multiple (x .transfer .length) (x .config .«max_packet_size»)))
+    ∷ (λ i x. calmOut i x || wholePackets (x .transfer .length) (x .config .«max_packet_size»))
     -- busy OUT transfer at its full length
     ∷ (λ i x. calmOut i x || not (eqb (x .transfer .progress) (x .transfer .length)))
     -- busy OUT transfer at no multiple of M

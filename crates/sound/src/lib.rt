@@ -1,14 +1,14 @@
 // Whether a state is sound (refusal 26). Each call that gets one asks it.
 ghost use mathlib.Core.Path.{_≡_};
-ghost use Rattle.sound.specs.Clauses.{inRam, aligned, multiple};
+ghost use mathlib.Core.Bool.{true};
+ghost use Rattle.sound.specs.Clauses.{inRam, aligned, multiple, wholePackets};
 ghost use Rattle.sound.specs.Sound.{soundb, driverSoundb, configb, outb, busyClausesb, slotb, awaitedb, ownb, memoryb, allocationsb};
-ghost use Rattle.sound.specs.Turn.{turnOf, inTurn, admitted};
+ghost use Rattle.sound.specs.Turn.{turnOf, admittedOf};
 use state::Awaited;
 use state::Check;
 use state::Driver;
 use state::EndpointConfig;
 use state::Events;
-use state::Phase;
 use state::Refusal;
 use state::Slot;
 use state::State;
@@ -37,9 +37,9 @@ pub fn is_multiple(n: u32, m: u32) -> bool
     false
 }
 
-// The same of a buffer and packets of m bytes, with no division where it holds one packet, or one burst.
+// A buffer of whole packets of m bytes, one at least. No division where it holds one packet, or one burst.
 fn whole_packets(size: u32, m: u16, burst: u8) -> bool
-    ensures { λ r. ⌜ r ≡ multiple size m ⌝ }
+    ensures { λ r. ⌜ r ≡ wholePackets size m ⌝ }
 {
     let n = m as u32;
     if size == n {
@@ -49,28 +49,28 @@ fn whole_packets(size: u32, m: u16, burst: u8) -> bool
     if size == most {
         return 0 < n;
     }
-    is_multiple(size, n)
+    if 0 < size {
+        return is_multiple(size, n);
+    }
+    false
 }
 
-// A configuration of slot i, where there is one.
-fn config_sound(i: usize, configured: bool, config: EndpointConfig) -> bool
-    ensures { λ r. ⌜ r ≡ configb i configured config ⌝ }
+// A configuration of slot i.
+fn config_fits(i: usize, config: EndpointConfig) -> bool
+    ensures { λ r. ⌜ r ≡ configb i true config ⌝ }
 {
-    if configured {
-        let number = slots::slot_number(config.index, config.incoming);
-        if number == i {
-            let m = config.max_packet_size;
-            let address = config.buffer.address;
-            let size = config.buffer.size;
-            let inside = in_ram(address, size);
-            let even = is_aligned(address);
-            if ((1 <= m) & (m <= 1024)) & (inside & (even & (0 < size))) {
-                return whole_packets(size, m, config.max_burst);
-            }
+    let number = slots::slot_number(config.index, config.incoming);
+    if number == i {
+        let m = config.max_packet_size;
+        let address = config.buffer.address;
+        let size = config.buffer.size;
+        let inside = in_ram(address, size);
+        let even = is_aligned(address);
+        if ((1 <= m) & (m <= 1024)) & (inside & even) {
+            return whole_packets(size, m, config.max_burst);
         }
-        return false;
     }
-    true
+    false
 }
 
 // A busy OUT transfer ends at whole packets and has some to come.
@@ -95,32 +95,42 @@ fn busy_sound(i: usize, x: Slot) -> bool
     inside & (even & out)
 }
 
-// A slot: only an enabled one that isn't stalled has a transfer, and only while powered.
+// A slot: only an enabled one that isn't stalled has a transfer, and only while powered. The commonest kind, configured
+// and idle, is out of it first.
 fn slot_sound(powered: bool, i: usize, x: Slot) -> bool
     ensures { λ r. ⌜ r ≡ slotb powered i x ⌝ }
 {
     let config = x.config;
     let phase = x.phase;
-    let configured = config_sound(i, x.configured, config);
-    if !configured {
+    if x.configured {
+        let fits = config_fits(i, config);
+        if !fits {
+            return false;
+        }
+        if i < 2 {
+            return true;
+        }
+        if x.transfer.length < x.transfer.progress {
+            return false;
+        }
+        let idle = slots::is_idle(phase);
+        if idle {
+            return true;
+        }
+        if (powered & x.enabled) & !x.stalled {
+            let busy = slots::is_busy(phase);
+            if busy {
+                return busy_sound(i, x);
+            }
+            return true;
+        }
         return false;
     }
     if i < 2 {
         return true;
     }
-    if x.transfer.length < x.transfer.progress {
-        return false;
-    }
-    match phase {
-        Phase::Idle => !x.enabled | x.configured,
-        Phase::Done => (powered & x.enabled) & (x.configured & !x.stalled),
-        Phase::Busy => {
-            if (powered & x.enabled) & (x.configured & !x.stalled) {
-                return busy_sound(i, x);
-            }
-            false
-        }
-    }
+    let idle = slots::is_idle(phase);
+    (idle & !x.enabled) & (x.transfer.progress <= x.transfer.length)
 }
 
 // The reading that an interrupt awaits.
@@ -165,6 +175,16 @@ pub fn sound(state: State, events: Events) -> bool
     true
 }
 
+// A configuration of slot i, where there is one.
+fn allocation_sound(i: usize, configured: bool, config: EndpointConfig) -> bool
+    ensures { λ r. ⌜ r ≡ configb i configured config ⌝ }
+{
+    if configured {
+        return config_fits(i, config);
+    }
+    true
+}
+
 fn allocations_sound(driver: Driver) -> bool
     ensures { λ r. ⌜ r ≡ allocationsb driver 16 ⌝ }
 {
@@ -173,7 +193,7 @@ fn allocations_sound(driver: Driver) -> bool
     while i < 16 {
         let a = driver.endpoints[i];
         let config = a.config;
-        let good = config_sound(i, a.configured, config);
+        let good = allocation_sound(i, a.configured, config);
         ok = ok & good;
         i = i + 1;
     }
@@ -206,18 +226,10 @@ pub fn turn_of(good: bool, awaited: Awaited, further: Check) -> Check
     state::refusals::first(!good, Refusal::Unsound, turn)
 }
 
-pub fn in_turn(state: State, events: Events, further: Check) -> Check
-    ensures { λ r. ⌜ r ≡ inTurn state events further ⌝ }
-{
-    let awaited = state.awaited;
-    let good = sound(state, events);
-    turn_of(good, awaited, further)
-}
-
 // The same of a call that is lent a list of so many numbers, with 10 before them.
-pub fn admit(room: usize, state: State, events: Events, further: Check) -> Check
-    ensures { λ r. ⌜ r ≡ admitted room state events further ⌝ }
+pub fn admit(room: usize, good: bool, awaited: Awaited, further: Check) -> Check
+    ensures { λ r. ⌜ r ≡ admittedOf room good (awaited .next) further ⌝ }
 {
-    let turn = in_turn(state, events, further);
+    let turn = turn_of(good, awaited, further);
     state::refusals::first(room < 640, Refusal::ListTooShort, turn)
 }

@@ -15,7 +15,7 @@ use Rattle.state.specs.declared.Refusal.{Refusal}
 use Rattle.state.specs.declared.Refusal.the-variants.{Unsound, OutOfTurn, ControlPacketSize}
 use Rattle.state.specs.declared.Check.{Check}
 use Rattle.state.specs.declared.Check.the-variants.{Fits, Refused}
-use Rattle.slots.specs.Slots.{resetSlot, stateWith, withSlots, change-none-of, change-next-of}
+use Rattle.slots.specs.Slots.{resetSlot, stateWith, withSlots, change-none-of, change-next-in}
 use Rattle.state.specs.Fresh.{slotAt, allocationAt}
 use Rattle.state.specs.Numbers.{refusalNumber, checkNumber}
 use Rattle.state.specs.Awaiting.{awaitingb}
@@ -40,8 +40,11 @@ configuredSlot x a =
       tally = x .tally;
     }
 
+abbrev pub slotStarted : ℕ → Slot → Allocation → Slot
+slotStarted i x a = configuredSlot (resetSlot x (leb 2 i) false) a
+
 abbrev pub startedSlot : Driver → ℕ → Slot → Slot
-startedSlot d i x = configuredSlot (resetSlot x (leb 2 i) false) (allocationAt d i)
+startedSlot d i x = slotStarted i x (allocationAt d i)
 
 unfoldable pub startedSlots : Driver → ℕ → List Slot → List Slot
 startedSlots d n slots = change (startedSlot d) n slots
@@ -50,21 +53,24 @@ pub started-none : (s : State) (d : Driver) → withSlots s (startedSlots d 0 (s
 unfolding startedSlots
 started-none s d = change-none-of (startedSlot d) s
 
-pub started-next : (s₀ s : State) (d : Driver) (i : ℕ) (y : Slot) → s ≡ withSlots s₀ (startedSlots d i (s₀ .endpoints)) → y ≡ startedSlot d i (slotAt s₀ i)
+pub started-next : (s₀ s : State) (d : Driver) (i : ℕ) (y : Slot) → s ≡ withSlots s₀ (startedSlots d i (s₀ .endpoints)) → y ≡ startedSlot d i (slotAt s i)
     → withSlots s (set (s .endpoints) i y) ≡ withSlots s₀ (startedSlots d (i + 1) (s₀ .endpoints))
 unfolding startedSlots
-started-next s₀ s d i y h e = change-next-of (startedSlot d) s₀ s i y h e
+started-next s₀ s d i y h e = change-next-in (startedSlot d) s₀ s i y h e
 
 -- EP0 gets the start of the memory; the device is off, and no SETUP waits
 abbrev pub startedState : State → Driver → State
 startedState s d = stateWith s (startedSlots d 16 (s .endpoints)) (d .memory) false false (s .wake)
 
+-- 6
+abbrev pub sizeDues : ℕ → List Due
+sizeDues size = ControlPacketSize if not (eqb size 512) ∷ []
+
 abbrev pub startDues : State → Events → Driver → ℕ → List Due
 startDues s e d size =
     Unsound if not (soundb s e && driverSoundb d)
     ∷ OutOfTurn if awaitingb (s .awaited .next)
-    ∷ ControlPacketSize if not (eqb size 512)
-    ∷ []
+    ∷ sizeDues size
 
 unfoldable pub startCheck : State → Events → Driver → ℕ → Check
 startCheck s e d size = firstDue (startDues s e d size)

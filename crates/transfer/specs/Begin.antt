@@ -5,24 +5,27 @@ use mathlib.Core.Path.{_≡_, refl}
 use mathlib.Core.Bool.{Bool, true, false, _&&_, _||_, not}
 use mathlib.Core.List.{List, [], _∷_, _++_}
 use native.Mathlib.Omega.{arith}
+use borrow.Author.Tests.{not-false}
 use lib.Dec.{leb, ltb}
 use lib.ListN.{length, length-append}
+use lib.Seq.{set-set}
 use Rattle.ops.specs.Ops.{Op, flat, flat-append, records}
 use Rattle.state.specs.declared.Phase.the-variants.{Busy}
 use Rattle.state.specs.declared.Slot.{Slot}
 use Rattle.state.specs.declared.State.{State}
 use Rattle.state.specs.declared.Events.{Events}
+use Rattle.state.specs.declared.Refusal.{Refusal}
 use Rattle.state.specs.declared.Refusal.the-variants.{ListTooShort, Unsound, OutOfTurn, NoDataEndpoint, Disabled, InHand, UnfitBuffer}
 use Rattle.state.specs.declared.Check.{Check}
 use Rattle.state.specs.declared.Check.the-variants.{Fits, Refused}
-use Rattle.slots.specs.Slots.{idleb, slotNumber, dataEndpoint, withSlot}
+use Rattle.slots.specs.Slots.{idleb, slotNumber, slotPlace, data-place, dataEndpoint, withSlot}
 use Rattle.state.specs.Fresh.{slotAt}
 use Rattle.state.specs.Numbers.{refusalNumber, checkNumber}
 use Rattle.state.specs.Awaiting.{awaitingb}
-use Rattle.state.specs.Refusals.{Due, _if_, firstDue, Bound, bound}
+use Rattle.state.specs.Refusals.{Due, _if_, firstDue, none-due, not-due, Bound, bound}
 use Rattle.sound.specs.Clauses.{inRam, aligned, multiple}
 use Rattle.sound.specs.Sound.{soundb}
-use Rattle.sound.specs.Turn.{admitted-room}
+use Rattle.sound.specs.Turn.{admittedOf, admitted-room}
 use Rattle.chains.specs.Chains.{chainLimit, slotSize, queuedSlot, queueOps, queue-most}
 use Rattle.window.specs.Window.{windowsOps, windows-room}
 use Rattle.transfer.specs.declared.BeginAnswer.{BeginAnswer}
@@ -158,9 +161,40 @@ pub begin-bound : (s : State) (v : Events) (e : ℕ) (incoming : Bool) (p : Piec
 unfolding beginCheck
 begin-bound s v e incoming p room = bound (beginDues s v e incoming p room)
 
--- what a begin comes to, by what its tests come to: a refused one leaves the state as it was, with no operation
-pub begin-at : (s : State) (v : Events) (e : ℕ) (incoming : Bool) (p : Piece) (room : ℕ) (c : Check) → beginCheck s v e incoming p room ≡ c
-    → (beginAnswerAt c ≡ beginAnswer s v e incoming p room)
-    × ((beginStateAt c s e incoming p ≡ beginState s v e incoming p room) × (beginOpsAt c s e incoming p ≡ beginOps s v e incoming p room))
+-- one that fits is of a data endpoint
+begin-reaches : (s : State) (v : Events) (e : ℕ) (incoming : Bool) (p : Piece) (room : ℕ) → beginCheck s v e incoming p room ≡ Fits → dataEndpoint e ≡ true
+unfolding beginCheck
+begin-reaches s v e incoming p room h =
+    let n1 = not-due (none-due (beginDues s v e incoming p room) h) in
+    let n2 = not-due (n1 .1) in
+    let n3 = not-due (n2 .1) in
+    not-false _ (not-due (n3 .1) .0)
+
+-- the tests of what stands in the endpoint's place are those of its slot: an endpoint without one is refused before
+pub check-place : (s : State) (v : Events) (e : ℕ) (incoming : Bool) (p : Piece) (room : ℕ)
+    → admittedOf room (soundb s v) (s .awaited .next) (firstDue (slotDues (s .powered) e incoming (slotAt s (slotPlace e incoming)) p)) ≡ beginCheck s v e incoming p room
+unfolding beginCheck
+check-place s v e incoming p room = go (dataEndpoint e) refl
+  where
+    go : (b : Bool) → dataEndpoint e ≡ b
+        → admittedOf room (soundb s v) (s .awaited .next) (firstDue (slotDues (s .powered) e incoming (slotAt s (slotPlace e incoming)) p)) ≡ beginCheck s v e incoming p room
+    go true d = rw (data-place e incoming d)
+    go false d = rw d
+
+-- a begin that is refused leaves the state as it was, with no operation
+pub begin-refused : (s : State) (v : Events) (e : ℕ) (incoming : Bool) (p : Piece) (room : ℕ) (r : Refusal) → beginCheck s v e incoming p room ≡ Refused r
+    → (begin.Refused r ≡ beginAnswer s v e incoming p room) × ((s ≡ beginState s v e incoming p room) × ([] ≡ beginOps s v e incoming p room))
 unfolding beginAnswer beginState beginOps
-begin-at s v e incoming p room c h = (rw h, (rw h, rw h))
+begin-refused s v e incoming p room r h = (rw h, (rw h, rw h))
+
+-- one that isn't stores the slot in its place twice: as y, with the transfer in hand, for the windows; and as z, with its
+-- first chain handed over
+pub begin-stored : (s : State) (v : Events) (e : ℕ) (incoming : Bool) (p : Piece) (room i : ℕ) (y z : Slot) → beginCheck s v e incoming p room ≡ Fits
+    → i ≡ slotPlace e incoming → y ≡ begunSlot (slotAt s i) p → z ≡ queuedSlot chainLimit incoming y
+    → (begin.Begun ≡ beginAnswer s v e incoming p room)
+    × ((withSlot (withSlot s i y) i z ≡ beginState s v e incoming p room)
+    × (windowsOps (withSlot s i y) ++ queueOps chainLimit e incoming y ≡ beginOps s v e incoming p room))
+unfolding beginAnswer beginState beginOps
+begin-stored s v e incoming p room i y z h place first next =
+    rw (next, first, place, h, data-place e incoming (begin-reaches s v e incoming p room h))
+    (refl, (rw (set-set (s .endpoints) (slotNumber e incoming) (begunAt s e incoming p) (queuedSlot chainLimit incoming (begunAt s e incoming p))), refl))

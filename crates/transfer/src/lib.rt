@@ -1,15 +1,12 @@
 // Transfers on the data endpoints 1 to 7, begun (reference: `run` of endpoint.rs).
 ghost use mathlib.Core.Path.{_≡_};
-ghost use Prim.Native.Nat.{_≤_};
 ghost use mathlib.Core.Bool.{false};
 ghost use lib.ListN.{length as listLength};
-ghost use Rattle.ops.specs.Ops.{records};
 ghost use Rattle.ops.specs.Wrote.{Wrote};
 ghost use Rattle.state.specs.Refusals.{firstDue};
 ghost use Rattle.state.specs.Numbers.{checkNumber};
 ghost use Rattle.slots.specs.Waking.{noWakes};
-ghost use Rattle.transfer.specs.Begin.{piece, pieceFits, slotDues, begunSlot, begunState, begunOps, beginCheck, beginAnswer, beginState, beginOps, beginNumber};
-ghost use Rattle.transfer.specs.declared.BeginAnswer.the-variants.{Begun};
+ghost use Rattle.transfer.specs.Begin.{piece, pieceFits, slotDues, begunSlot, beginCheck, beginAnswer, beginState, beginOps, beginNumber};
 use chains::CHAIN_PACKETS;
 use state::Check;
 use state::Events;
@@ -27,8 +24,8 @@ pub enum BeginAnswer {
 }
 
 pub struct BeginResult {
-    pub answer: BeginAnswer,
     pub state: State,
+    pub answer: BeginAnswer,
     pub end: usize,
     pub wakes: Wakes,
 }
@@ -67,23 +64,6 @@ fn slot_check(
     state::refusals::first(!data, Refusal::NoDataEndpoint, on)
 }
 
-fn begin_check(
-    room: usize,
-    state: State,
-    events: Events,
-    index: u8,
-    incoming: bool,
-    address: u32,
-    length: u32,
-) -> Check
-    ensures { λ r. ⌜ r ≡ beginCheck state events index incoming (piece address length false) room ⌝ }
-{
-    let i = slots::slot_number(index, incoming);
-    let slot = slots::slot_at(state, i);
-    let further = slot_check(state.powered, index, incoming, slot, address, length);
-    sound::admit(room, state, events, further)
-}
-
 // The slot that has taken a transfer on, with nothing of it moved.
 fn begun_slot(slot: Slot, address: u32, length: u32, zlp: bool) -> Slot
     ensures { λ r. ⌜ r ≡ begunSlot slot (piece address length zlp) ⌝ }
@@ -111,38 +91,6 @@ fn begun_slot(slot: Slot, address: u32, length: u32, zlp: bool) -> Slot
     }
 }
 
-// A begin that nothing speaks against: the windows, then the first chain.
-fn begun(
-    ops: &mut [u32],
-    state: State,
-    index: u8,
-    incoming: bool,
-    address: u32,
-    length: u32,
-    zlp: bool,
-) -> BeginResult
-    requires { ⌜ records 12 ≤ listLength (now ops) ⌝ }
-    ensures answer { λ r. ⌜ (r .answer ≡ Begun) × (r .wakes ≡ noWakes) ⌝ }
-    ensures state { λ r. ⌜ r .state ≡ begunState state index incoming (piece address length zlp) ⌝ }
-    ensures list { λ r. ⌜ Wrote (now (ops .entry)) 0 (begunOps state index incoming (piece address length zlp)) (r .end) (now (ops .exit)) ⌝ }
-{
-    let i = slots::slot_number(index, incoming);
-    let slot = slots::slot_at(state, i);
-    let y = begun_slot(slot, address, length, zlp);
-    let s = slots::with_slot(state, i, y);
-    let a = window::set_windows(ops, 0, s);
-    let queued = chains::queue(ops, a, CHAIN_PACKETS, index, incoming, y);
-    let next = queued.slot;
-    let after = slots::with_slot(state, i, next);
-    let wakes = slots::waking::no_wakes();
-    BeginResult {
-        answer: BeginAnswer::Begun,
-        state: after,
-        end: queued.end,
-        wakes: wakes,
-    }
-}
-
 // Begins a transfer of `length` bytes at `address`. `zlp`: an empty packet closes one of IN.
 pub fn begin(
     ops: &mut [u32],
@@ -160,17 +108,55 @@ pub fn begin(
     ensures wakes { λ r. ⌜ r .wakes ≡ noWakes ⌝ }
     ensures number { λ r. ⌜ beginNumber (r .answer) ≡ checkNumber (beginCheck state events index incoming (piece address length zlp) (listLength (now (ops .entry)))) ⌝ }
 {
-    let check = begin_check(ops.len(), state, events, index, incoming, address, length);
-    match check {
-        Check::Fits => begun(ops, state, index, incoming, address, length, zlp),
-        Check::Refused(refusal) => {
-            let wakes = slots::waking::no_wakes();
-            BeginResult {
-                answer: BeginAnswer::Refused(refusal),
-                state: state,
-                end: 0,
-                wakes: wakes,
-            }
-        }
+    let mut s = state;
+    let good = sound::sound(s, events);
+    let awaited = s.awaited;
+    let wakes = slots::waking::no_wakes();
+    let i = slots::slot_place(index, incoming);
+    let slot = s.endpoints[i];
+    let further = slot_check(s.powered, index, incoming, slot, address, length);
+    let check = sound::admit(ops.len(), good, awaited, further);
+    if let Check::Refused(refusal) = check {
+        return BeginResult {
+            state: s,
+            answer: BeginAnswer::Refused(refusal),
+            end: 0,
+            wakes: wakes,
+        };
+    }
+    let y = begun_slot(slot, address, length, zlp);
+    s.endpoints[i] = y;
+    // how many data slots have a transfer in hand, this one among them
+    let mut count: u32 = 0;
+    let mut n: usize = 0;
+    while n < 14 {
+        let k = n + 2;
+        let x = s.endpoints[k];
+        let phase = x.phase;
+        let idle = slots::is_idle(phase);
+        count = count + !idle as u32;
+        n = n + 1;
+    }
+    let window = window::window_of(count);
+    // the window of every busy OUT endpoint
+    let mut a: usize = 0;
+    let mut e: u8 = 0;
+    while e < 7 {
+        let next = e + 1;
+        let k = slots::slot_number(next, false);
+        let x = s.endpoints[k];
+        let phase = x.phase;
+        let busy = slots::is_busy(phase);
+        a = window::window_at(ops, a, busy, window, next);
+        e = next;
+    }
+    let queued = chains::queue(ops, a, CHAIN_PACKETS, index, incoming, y);
+    let begun = queued.slot;
+    s.endpoints[i] = begun;
+    BeginResult {
+        state: s,
+        answer: BeginAnswer::Begun,
+        end: queued.end,
+        wakes: wakes,
     }
 }

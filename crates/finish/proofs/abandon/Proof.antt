@@ -1,57 +1,74 @@
--- `abandon`: abandoned or refused. Assumes nothing.
+-- `abandon`: the slot is abandoned where it lies. Assumes nothing.
 use borrow.Author.Needs.{needs}
 use native.Mathlib.Omega.{arith}
-use Rattle.ops.specs.Wrote.{same, none}
-use mathlib.Core.Path.{sym, _∙_}
-use Rattle.finish.specs.Abandon.{abandon-room, abandon-at, abandon-numbers}
+use mathlib.Core.Path.{_≡_, sym, _∙_}
+use denote.Ref.{now}
+use lib.ListN.{length}
+use Rattle.ops.specs.Wrote.{same}
+use Rattle.finish.specs.Abandon.{abandonCheck, abandon-room, abandon-stored, abandon-numbers}
 use Rattle.finish.proofs.abandon.Statement.{statement}
 use Rattle.finish.proofs.abandon.Tie as tie
+
+abbrev start : tie.After-abandon-check → tie.Start
+start c = c .before .before .before .before .before
+
+checked : (c : tie.After-abandon-check) → abandonCheck (start c .args .state) (start c .args .events) (start c .args .index) (length (now (start c .args .ops))) ≡ c .abandon-check .result
+unfolding abandonCheck
+checked c = sym (rw (c .before .before .before .sound .ensures) at (c .abandon-check .ensures))
+
+sound-requires : tie.Need-sound-requires
+sound-requires c κs = search needs
+
+no-wakes-requires : tie.Need-no-wakes-requires
+no-wakes-requires c κs = search needs
 
 abandon-check-requires : tie.Need-abandon-check-requires
 abandon-check-requires c κs = search needs
 
-enum-told : tie.Need-enum-told
-enum-told c = search needs
+slot-place-requires : tie.Need-slot-place-requires
+slot-place-requires c κs = search needs
 
-abandoned-requires : tie.Need-abandoned-requires
-abandoned-requires c κs =
-    let t = c .before in
-    let k = t .before .before in
-    omega (arith, abandon-room _ _ _ _ (sym (k .abandon-check .ensures) ∙ t .enum-told .given .1))
+mul-slot : tie.Need-mul-slot
+mul-slot c = search needs
 
-enum-known-check : tie.Need-enum-known-check
-enum-known-check c = search needs
+element-copy-out-slot : tie.Need-element-copy-out-slot
+element-copy-out-slot c = search needs
 
-no-wakes-requires : tie.Need-no-wakes-requires
-no-wakes-requires c κs = search needs
+abandon-slot-requires : tie.Need-abandon-slot-requires
+abandon-slot-requires c κs q = omega (arith, abandon-room _ _ _ _ (checked (c .before .before .before) ∙ q))
+
+mul-y : tie.Need-mul-y
+mul-y c = search needs
+
+element-set-from-y : tie.Need-element-set-from-y
+element-set-from-y c = search needs
 
 same-length : tie.Need-same-length
 same-length c = search needs
 
 returns : tie.Need-returns
 returns c =
-    let b = c .before .before in
-    let t = b .before .before in
-    let o = abandon-at _ _ _ _ _ _ (sym (t .before .before .abandon-check .ensures) ∙ t .enum-told .given .1) in
-    let e = b .abandoned .ensures in
-    let answer = e .0 .0 ∙ o .0 in
-    (answer, (e .1 .0 ∙ o .1 .0, (same (o .1 .1) (e .1 .1), (e .0 .1, abandon-numbers _ _ _ _ _ _ answer))))
-
-returns-2 : tie.Need-returns-2
-returns-2 c =
-    let k = c .before .before in
-    let o = abandon-at _ _ _ _ _ _ (sym (k .before .before .abandon-check .ensures) ∙ k .check .given .1) in
-    (o .0, (o .1 .0, (same (o .1 .1) (none _ _), (c .no-wakes .ensures, abandon-numbers _ _ _ _ _ _ (o .0)))))
+    let g = c .before .before .before in
+    let p = g .before .before .before in
+    let k = p .before in
+    let a = start k .args in
+    let o = abandon-stored (a .state) (a .events) (a .index) (a .incoming) _ (k .abandon-check .result) (checked k) in
+    let e = rw (p .slot-place .ensures) at (g .abandon-slot .ensures) in
+    let answer = e .0 ∙ o .0 in
+    (answer, (rw (p .slot-place .ensures, e .1 .0) (o .1 .0), (same (o .1 .1) (e .1 .1), (k .before .no-wakes .ensures, abandon-numbers _ _ _ _ _ _ answer))))
 
 pub abandon-spec : {M : Type 1} → statement M
 abandon-spec =
     tie.close
     (tie.spec
-    abandon-check-requires
-    enum-told
-    abandoned-requires
-    enum-known-check
+    sound-requires
     no-wakes-requires
+    abandon-check-requires
+    slot-place-requires
+    mul-slot
+    element-copy-out-slot
+    abandon-slot-requires
+    mul-y
+    element-set-from-y
     same-length
-    returns
-    returns-2)
+    returns)

@@ -1,6 +1,5 @@
 -- `abandon_check`: 10, 26, 24, then 7. Assumes nothing.
 use borrow.Author.Needs.{needs}
-use Rattle.finish.specs.Abandon.{abandonCheck}
 use Rattle.finish.proofs.abandon_check.Statement.{statement}
 use Rattle.finish.proofs.abandon_check.Tie as tie
 
@@ -14,10 +13,7 @@ admit-requires : tie.Need-admit-requires
 admit-requires c κs = search needs
 
 returns : tie.Need-returns
-unfolding abandonCheck
-returns c =
-    let f = c .before in
-    rw (c .admit .ensures, f .first .ensures, f .before .is-data-endpoint .ensures)
+returns c = rw (c .admit .ensures, c .before .first .ensures, c .before .before .is-data-endpoint .ensures)
 
 pub abandon-check-spec : {M : Type 1} → statement M
 abandon-check-spec =

@@ -1,15 +1,8 @@
 -- `take`: the slot is taken where it lies. Assumes nothing.
 use borrow.Author.Needs.{needs}
-use mathlib.Core.Path.{_≡_, sym, _∙_}
-use lib.ListN.{length}
-use Rattle.slots.specs.Each.{length-mapped}
-use Rattle.slots.specs.Slots.{no-slot}
-use Rattle.finish.specs.Take.{take-told, took-take, took-nothing}
+use Rattle.finish.specs.Take.{take-told, took-take}
 use Rattle.finish.proofs.take.Statement.{statement}
 use Rattle.finish.proofs.take.Tie as tie
-
-sixteen : (c : tie.Start) → length (c .args .state .endpoints) ≡ 16
-sixteen c = search length-mapped
 
 sound-requires : tie.Need-sound-requires
 sound-requires c κs = search needs
@@ -17,8 +10,8 @@ sound-requires c κs = search needs
 no-wakes-requires : tie.Need-no-wakes-requires
 no-wakes-requires c κs = search needs
 
-slot-number-requires : tie.Need-slot-number-requires
-slot-number-requires c κs = search needs
+slot-place-requires : tie.Need-slot-place-requires
+slot-place-requires c κs = search needs
 
 mul-slot : tie.Need-mul-slot
 mul-slot c = search needs
@@ -38,27 +31,11 @@ element-set-from-y c = search needs
 returns : tie.Need-returns
 returns c =
     let t = c .before in
-    let n = t .before .before .before in
-    let g = n .before .before .before in
-    take-told _ _ _ _ _ (rw (n .before .no-wakes .ensures) (took-take (g .before .args .state) _ _ _ _ _ (n .slot-number .ensures) (rw (g .sound .ensures) at (t .take-slot .ensures))))
-
-fresh-slot-requires : tie.Need-fresh-slot-requires
-fresh-slot-requires c κs = search needs
-
-take-slot-requires-2 : tie.Need-take-slot-requires-2
-take-slot-requires-2 c κs = search needs
-
-returns-2 : tie.Need-returns-2
-returns-2 c =
-    let f = c .before in
-    let l = f .before in
-    let n = l .before in
-    let g = n .before .before .before in
-    let s = g .before .args .state in
+    let p = t .before .before in
+    let g = p .before .before .before in
+    let a = g .before .args in
     take-told _ _ _ _ _
-    (rw (n .before .no-wakes .ensures)
-    (took-nothing s (n .slot-number .result) (c .take-slot2 .result) (sixteen (g .before)) (l .if1 .left)
-    ∙ took-take s _ _ _ _ _ (n .slot-number .ensures) (rw (g .sound .ensures, f .fresh-slot .ensures ∙ sym (no-slot s (n .slot-number .result) (sixteen (g .before)) (l .if1 .left))) at (c .take-slot2 .ensures))))
+    (rw (p .before .no-wakes .ensures, t .take-slot .ensures, g .sound .ensures, p .slot-place .ensures) (took-take (a .state) (a .events) (a .index) (a .incoming)))
 
 pub take-spec : {M : Type 1} → statement M
 take-spec =
@@ -66,13 +43,10 @@ take-spec =
     (tie.spec
     sound-requires
     no-wakes-requires
-    slot-number-requires
+    slot-place-requires
     mul-slot
     element-copy-out-slot
     take-slot-requires
     mul-y
     element-set-from-y
-    returns
-    fresh-slot-requires
-    take-slot-requires-2
-    returns-2)
+    returns)

@@ -1,25 +1,33 @@
 -- `is_stalled`: the slot's flag. Assumes nothing.
+use Rattle.orders.specs.Queries.{stalledb, queryAnswer, queryCheck, asked-place, query-told}
 use borrow.Author.Needs.{needs}
-use Rattle.orders.specs.Queries.{stalledb}
-use mathlib.Core.Path.{sym}
 use Rattle.orders.proofs.is_stalled.Statement.{statement}
 use Rattle.orders.proofs.is_stalled.Tie as tie
 
-slot-number-requires : tie.Need-slot-number-requires
-slot-number-requires c κs = search needs
+slot-place-requires : tie.Need-slot-place-requires
+slot-place-requires c κs = search needs
 
-slot-at-requires : tie.Need-slot-at-requires
-slot-at-requires c κs = search needs
+mul-x : tie.Need-mul-x
+mul-x c = search needs
+
+element-copy-out-x : tie.Need-element-copy-out-x
+element-copy-out-x c = search needs
+
+sound-requires : tie.Need-sound-requires
+sound-requires c κs = search needs
 
 answer-requires : tie.Need-answer-requires
 answer-requires c κs = search needs
 
 returns : tie.Need-returns
-unfolding stalledb
+unfolding stalledb queryAnswer queryCheck
 returns c =
-    let x = c .before .before in
-    rw (sym (x .before .slot-number .ensures), sym (x .slot-at .ensures)) (c .answer .ensures)
+    let g = c .before in
+    let p = g .before .before .before in
+    let a = p .before .before .args in
+    query-told _ _ _ _ (rw (c .answer .ensures, g .sound .ensures, p .slot-place .ensures, asked-place (λ x. x .stalled) (a .t1) (a .index) (a .incoming)))
 
 pub is-stalled-spec : {M : Type 1} → statement M
 is-stalled-spec =
-    tie.close (tie.spec slot-number-requires slot-at-requires answer-requires returns)
+    tie.close
+    (tie.spec slot-place-requires mul-x element-copy-out-x sound-requires answer-requires returns)

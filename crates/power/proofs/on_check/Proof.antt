@@ -1,6 +1,5 @@
--- `on_check`: the revision, then whether a driver was started. Assumes nothing.
+-- `on_check`: 10, 26, 24, then the revision, then whether a driver was started. Assumes nothing.
 use borrow.Author.Needs.{needs}
-use Rattle.power.specs.Power.{onCheck}
 use Rattle.power.proofs.on_check.Statement.{statement}
 use Rattle.power.proofs.on_check.Tie as tie
 
@@ -14,7 +13,6 @@ admit-requires : tie.Need-admit-requires
 admit-requires c κs = search needs
 
 returns : tie.Need-returns
-unfolding onCheck
 returns c = rw (c .admit .ensures, c .before .first2 .ensures, c .before .before .first .ensures)
 
 pub on-check-spec : {M : Type 1} → statement M

@@ -24,8 +24,8 @@ mul-a c = search needs
 element-copy-out-a : tie.Need-element-copy-out-a Inv-loop μ-loop
 element-copy-out-a c = search needs
 
-config-sound-requires : tie.Need-config-sound-requires Inv-loop μ-loop
-config-sound-requires c κs = search needs
+allocation-sound-requires : tie.Need-allocation-sound-requires Inv-loop μ-loop
+allocation-sound-requires c κs = search needs
 
 add-i : tie.Need-add-i Inv-loop μ-loop
 add-i c = search needs
@@ -37,7 +37,7 @@ loop-again : tie.Need-loop-again Inv-loop μ-loop
 unfolding allocationsb
 loop-again c =
     let l = c .before .before .before .before .loop in
-    (search needs, every-step _ (l .i) (l .ok) (c .config-sound .result) (l .inv .1) (c .config-sound .ensures))
+    (search needs, every-step _ (l .i) (l .ok) (c .allocation-sound .result) (l .inv .1) (c .allocation-sound .ensures))
 
 returns : tie.Need-returns Inv-loop μ-loop
 returns c =
@@ -53,7 +53,7 @@ allocations-sound-spec =
     loop-holds
     mul-a
     element-copy-out-a
-    config-sound-requires
+    allocation-sound-requires
     add-i
     loop-less
     loop-again

@@ -1,5 +1,6 @@
 -- `whole_packets`: one packet, one burst, or by division. Assumes nothing.
 use native.Mathlib.Omega.{arith}
+use borrow.Author.Tests.{lt-ltb, le-ltb}
 use Rattle.sound.specs.Sound.{whole-packet, whole-burst, burst-fits}
 use borrow.Author.Needs.{needs}
 use Rattle.sound.proofs.whole_packets.Statement.{statement}
@@ -21,8 +22,12 @@ is-multiple-requires : tie.Need-is-multiple-requires
 is-multiple-requires c κs = search needs
 
 returns-3 : tie.Need-returns-3
-returns-3 c = search needs
+returns-3 c = rw (lt-ltb _ _ (c .before .if3 .taken)) (c .is-multiple .ensures)
+
+returns-4 : tie.Need-returns-4
+returns-4 c = rw (le-ltb _ _ (c .if3 .left))
 
 pub whole-packets-spec : {M : Type 1} → statement M
 whole-packets-spec =
-    tie.close (tie.spec returns add-most mul-most returns-2 is-multiple-requires returns-3)
+    tie.close
+    (tie.spec returns add-most mul-most returns-2 is-multiple-requires returns-3 returns-4)
