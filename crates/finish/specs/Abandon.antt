@@ -2,7 +2,7 @@
 -- Assumes nothing.
 use Prim.Native.Nat.{ℕ, _≤_}
 use mathlib.Core.Path.{_≡_, refl}
-use mathlib.Core.Bool.{Bool, true, false, _&&_, not, cond}
+use mathlib.Core.Bool.{Bool, true, _&&_, not, cond}
 use mathlib.Core.List.{List, [], _∷_}
 use borrow.Author.Tests.{not-false}
 use lib.Dec.{ltb}

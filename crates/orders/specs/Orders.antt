@@ -1,6 +1,6 @@
 -- Stall and enable orders (reference: `with_endpoint`, `set_endpoint_stalled` and `endpoint_set_enabled` of device.rs).
 -- Assumes nothing.
-use Prim.Native.Nat.{ℕ, _≤_}
+use Prim.Native.Nat.{ℕ}
 use mathlib.Core.Path.{_≡_, refl}
 use mathlib.Core.Bool.{Bool, true, false, _&&_, not, cond}
 use mathlib.Core.List.{List, [], _∷_, _++_}
@@ -26,7 +26,6 @@ use Rattle.slots.specs.Waking.{noWakes, wakeSlot}
 use Rattle.state.specs.Numbers.{refusalNumber, checkNumber}
 use Rattle.state.specs.Refusals.{Due, _if_, firstDue, Bound, bound}
 use Rattle.sound.specs.Sound.{soundb}
-use Rattle.sound.specs.Turn.{admitted-room}
 use Rattle.regs_endpoint.specs.Endpoint.{abortBusyOps, haltOps, clearOps, configureOps, enableOps}
 use Rattle.orders.specs.declared.Order.{Order}
 use Rattle.orders.specs.declared.Order.the-variants.{Stall, Enable}
@@ -110,10 +109,6 @@ orderDues n s e =
 
 unfoldable pub orderCheck : ℕ → State → Events → Check
 orderCheck n s e = firstDue (orderDues n s e)
-
-pub order-room : (n : ℕ) (s : State) (e : Events) → orderCheck n s e ≡ Fits → 640 ≤ n
-unfolding orderCheck
-order-room n s e h = admitted-room n s e Fits h
 
 abbrev pub obeyedOps : Check → Bool → ℕ → Bool → Order → Slot → List Op
 obeyedOps Fits powered index incoming o x = madeOps powered index incoming o x

@@ -6,7 +6,6 @@ use mathlib.Core.List.{List, [], _++_}
 use mathlib.Core.Path.{_≡_, refl}
 use lib.ListN.{set}
 use Rattle.ops.specs.Ops.{Op}
-use Rattle.state.specs.declared.Phase.{Phase}
 use Rattle.state.specs.declared.Phase.the-variants.{Done}
 use Rattle.state.specs.declared.Transfer.{Transfer}
 use Rattle.state.specs.declared.Slot.{Slot}

@@ -56,10 +56,10 @@ pub struct Tally {
 // One direction of an endpoint; its number is 2 * index, and 1 more for IN.
 pub struct Slot {
     pub configured: bool,
-    pub config: EndpointConfig,
     pub enabled: bool,
     pub stalled: bool,
     pub phase: Phase,
+    pub config: EndpointConfig,
     pub transfer: Transfer,
     pub tally: Tally,
 }

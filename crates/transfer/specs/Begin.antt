@@ -2,11 +2,11 @@
 -- Assumes nothing.
 use Prim.Native.Nat.{ℕ, _+_, _%_, _^_, _≤_}
 use mathlib.Core.Path.{_≡_, refl}
-use mathlib.Core.Bool.{Bool, true, false, _&&_, _||_, not}
+use mathlib.Core.Bool.{Bool, true, false, _&&_, not}
 use mathlib.Core.List.{List, [], _∷_, _++_}
 use native.Mathlib.Omega.{arith}
 use borrow.Author.Tests.{not-false}
-use lib.Dec.{leb, ltb}
+use lib.Dec.{ltb}
 use lib.ListN.{length, length-append}
 use lib.Seq.{set-set}
 use Rattle.ops.specs.Ops.{Op, flat, flat-append, records}

@@ -1,5 +1,5 @@
 -- `obey`: made, or refused. Assumes nothing.
-use mathlib.Core.Path.{refl, sym, _∙_}
+use mathlib.Core.Path.{sym, _∙_}
 use Rattle.ops.specs.Wrote.{none}
 use Rattle.state.specs.declared.Check.the-variants.{Fits}
 use Rattle.sound.specs.Turn.{lent-room}
