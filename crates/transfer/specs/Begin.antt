@@ -94,10 +94,13 @@ begunAt s e incoming p = begunSlot (slotAt s (slotNumber e incoming)) p
 abbrev pub begunState : State → ℕ → Bool → Piece → State
 begunState s e incoming p = withSlot s (slotNumber e incoming) (queuedSlot chainLimit incoming (begunAt s e incoming p))
 
--- the windows of all busy OUT endpoints, this one among them, and then the chain
+-- the state by which the windows are decided: this transfer is in hand too
+abbrev pub inHandState : State → ℕ → Bool → Piece → State
+inHandState s e incoming p = withSlot s (slotNumber e incoming) (begunAt s e incoming p)
+
+-- the windows of all busy OUT endpoints, and then the chain
 abbrev pub begunOps : State → ℕ → Bool → Piece → List Op
-begunOps s e incoming p =
-    windowsOps (withSlot s (slotNumber e incoming) (begunAt s e incoming p)) ++ queueOps chainLimit e incoming (begunAt s e incoming p)
+begunOps s e incoming p = windowsOps (inHandState s e incoming p) ++ queueOps chainLimit e incoming (begunAt s e incoming p)
 
 abbrev pub beginAnswerAt : Check → BeginAnswer
 beginAnswerAt Fits = begin.Begun
@@ -151,7 +154,7 @@ begin-room s v e incoming p room h = admitted-room room s v (firstDue (slotDues 
 pub begun-most : (s : State) (e : ℕ) (incoming : Bool) (p : Piece) → length (flat (begunOps s e incoming p)) ≤ records 12
 begun-most s e incoming p =
     let y = begunAt s e incoming p in
-    let s₁ = withSlot s (slotNumber e incoming) y in
+    let s₁ = inHandState s e incoming p in
     let a = windowsOps s₁ in
     let b = queueOps chainLimit e incoming y in
     rw (flat-append a b, length-append (flat a) (flat b)) (omega (arith, windows-room s₁, queue-most chainLimit e incoming y))
