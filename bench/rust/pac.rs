@@ -269,7 +269,7 @@ pub mod usbss {
             }
         }
 
-        // The register crate asserts its indices.
+        // Indices are asserted, as register crates of this kind do it; the one that the HAL uses isn't at hand.
         impl UepTxEn {
             #[inline(always)]
             pub fn set_ep_tx_en(&mut self, n: usize, on: bool) {
