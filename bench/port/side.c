@@ -7,8 +7,8 @@
 #include <stdlib.h>
 #include <string.h>
 
-typedef struct { _Alignas(4) uint8_t bytes[sound__sound_arg0]; } State;
-typedef struct { _Alignas(4) uint8_t bytes[start__start_arg3]; } Driver;
+typedef struct { _Alignas(4) uint8_t bytes[state_sound__sound_arg0]; } State;
+typedef struct { _Alignas(4) uint8_t bytes[driver_start__start_arg3]; } Driver;
 typedef struct { uint8_t bits; } Events;
 typedef struct { uint32_t *at; uint64_t length; } List;
 typedef struct {
@@ -44,33 +44,33 @@ typedef struct { Query answer; Events events; } PollResult;
 #define STATE_CALL(name, result, ...) \
     _Static_assert(offsetof(result, state) == name##_state, "where the state lies in what " #name " returns"); \
     CALL(name, result, __VA_ARGS__)
-_Static_assert(sizeof(Request) == allocate__allocate_arg3, "the layout of a request");
-_Static_assert(sizeof(Events) == sound__sound_arg1, "the layout of the events");
+_Static_assert(sizeof(Request) == driver_allocate__allocate_arg3, "the layout of a request");
+_Static_assert(sizeof(Events) == state_sound__sound_arg1, "the layout of the events");
 
 _Static_assert(sizeof(State) == state__fresh__fresh_result, "the layout of the state");
 void state__fresh__fresh(State *);
-CALL(allocate__new, NewResult, uint32_t address, uint32_t length);
-CALL(allocate__allocate, AllocateResult, const Driver *, _Bool incoming, const Request *);
-STATE_CALL(start__start, StartResult, const State *, const Events *, const Driver *, uint16_t size);
-STATE_CALL(transfer__begin, Result, const List *, const State *, const Events *, uint8_t index, _Bool incoming,
+CALL(driver_allocate__new, NewResult, uint32_t address, uint32_t length);
+CALL(driver_allocate__allocate, AllocateResult, const Driver *, _Bool incoming, const Request *);
+STATE_CALL(driver_start__start, StartResult, const State *, const Events *, const Driver *, uint16_t size);
+STATE_CALL(transfer_begin__begin, Result, const List *, const State *, const Events *, uint8_t index, _Bool incoming,
     uint32_t address, uint32_t length, _Bool zlp);
-STATE_CALL(report__report_in, Ended, const List *, uint64_t at, const State *, uint8_t index);
-STATE_CALL(report__report_out, Ended, const List *, uint64_t at, const State *, uint8_t index, uint32_t packets,
+STATE_CALL(transfer_report__report_in, Ended, const List *, uint64_t at, const State *, uint8_t index);
+STATE_CALL(transfer_report__report_out, Ended, const List *, uint64_t at, const State *, uint8_t index, uint32_t packets,
     uint32_t last);
-STATE_CALL(finish__take, TakeResult, const State *, const Events *, uint8_t index, _Bool incoming);
-STATE_CALL(finish__abandon, AbandonResult, const List *, const State *, const Events *, uint8_t index, _Bool incoming);
-STATE_CALL(orders__endpoint_set_stalled, Result, const List *, const State *, const Events *, uint8_t index,
+STATE_CALL(transfer_finish__take, TakeResult, const State *, const Events *, uint8_t index, _Bool incoming);
+STATE_CALL(transfer_finish__abandon, AbandonResult, const List *, const State *, const Events *, uint8_t index, _Bool incoming);
+STATE_CALL(bus_order__endpoint_set_stalled, Result, const List *, const State *, const Events *, uint8_t index,
     _Bool incoming, _Bool stalled);
-STATE_CALL(orders__endpoint_set_enabled, Result, const List *, const State *, const Events *, uint8_t index,
+STATE_CALL(bus_order__endpoint_set_enabled, Result, const List *, const State *, const Events *, uint8_t index,
     _Bool incoming, _Bool enabled);
-CALL(orders__is_stalled, Query, const State *, const Events *, uint8_t index, _Bool incoming);
-CALL(orders__is_enabled, Query, const State *, const Events *, uint8_t index, _Bool incoming);
-STATE_CALL(power__power_on, Result, const List *, const State *, const Events *, uint32_t revision);
-STATE_CALL(power__power_off, Result, const List *, const State *, const Events *);
-STATE_CALL(reset__bus_reset, Ended, const List *, uint64_t at, const State *);
-CALL(events__raise, RaiseResult, const Events *, uint8_t event);
-CALL(events__poll, PollResult, const Events *);
-_Bool sound__sound(const State *, const Events *);
+CALL(bus_order__is_stalled, Query, const State *, const Events *, uint8_t index, _Bool incoming);
+CALL(bus_order__is_enabled, Query, const State *, const Events *, uint8_t index, _Bool incoming);
+STATE_CALL(bus_power__power_on, Result, const List *, const State *, const Events *, uint32_t revision);
+STATE_CALL(bus_power__power_off, Result, const List *, const State *, const Events *);
+STATE_CALL(bus_reset__bus_reset, Ended, const List *, uint64_t at, const State *);
+CALL(state_events__raise, RaiseResult, const Events *, uint8_t event);
+CALL(state_events__poll, PollResult, const Events *);
+_Bool state_sound__sound(const State *, const Events *);
 
 enum { BULK = 2, RESET = 1, POWER = 8, REVISION = 3, WIDTH = 5 };
 enum { MEMORY = 0x200A0000, PIECE = 0x200B0000, SHORT = 8 * 1024, LONG = 2 * 255 * 1024 };
@@ -99,24 +99,24 @@ void side_setup(int slots) {
     static AllocateResult given;
     static StartResult started;
     static Result r;
-    allocate__new(&made, MEMORY, 0x4000);
+    driver_allocate__new(&made, MEMORY, 0x4000);
     want(made.answer.kind == 1, "making a driver");
     driver = made.driver;
     for (int i = 0; i < slots; i++) {
         Request request = {1, i / 2 + 1, i % 2 == 0, BULK, 1024, 0, 0, 0, 0};
-        allocate__allocate(&given, &driver, request.incoming, &request);
+        driver_allocate__allocate(&given, &driver, request.incoming, &request);
         want(given.answer.kind == 1, "allocating an endpoint");
         driver = given.driver;
     }
     state__fresh__fresh(&fresh);
-    start__start(&started, &fresh, &events, &driver, 512);
+    driver_start__start(&started, &fresh, &events, &driver, 512);
     want(started.answer.kind == 1 && started.events.bits == POWER, "starting");
     off = started.state;
-    power__power_on(&r, &list, &off, &events, REVISION);
+    bus_power__power_on(&r, &list, &off, &events, REVISION);
     want(r.answer.kind == 1 && r.wakes.bus == 1 && r.wakes.slots == 0xFFFF, "power on");
     on = r.state;
     for (int i = 0; i < slots; i++) {
-        orders__endpoint_set_enabled(&r, &list, &on, &events, i / 2 + 1, i % 2 == 0, 1);
+        bus_order__endpoint_set_enabled(&r, &list, &on, &events, i / 2 + 1, i % 2 == 0, 1);
         want(r.answer.kind == 1, "enabling an endpoint");
         on = r.state;
     }
@@ -125,7 +125,7 @@ void side_setup(int slots) {
 /* The state with a transfer begun. */
 static State begun(State s, int index, int incoming, uint32_t length) {
     static Result r;
-    transfer__begin(&r, &list, &s, &events, index, incoming, PIECE, length, 0);
+    transfer_begin__begin(&r, &list, &s, &events, index, incoming, PIECE, length, 0);
     want(r.answer.kind == 1, "a transfer begun before the call");
     return r.state;
 }
@@ -144,7 +144,7 @@ int side_run(const char *row) {
         if (busy)
             for (int e = 2; e <= 7; e++) s = begun(s, e, 0, SHORT);
         bench_on();
-        transfer__begin(&r, &list, &s, &events, 1, incoming, PIECE, SHORT, 0);
+        transfer_begin__begin(&r, &list, &s, &events, 1, incoming, PIECE, SHORT, 0);
         bench_off();
         want(r.answer.kind == 1, row);
         want_records(r.end, incoming ? 5 : busy ? 11 : 5, row);
@@ -152,14 +152,14 @@ int side_run(const char *row) {
         int on = is(row, "report_in_on");
         s = begun(s, 1, 1, on ? LONG : SHORT);
         bench_on();
-        report__report_in(&ended, &list, 0, &s, 1);
+        transfer_report__report_in(&ended, &list, 0, &s, 1);
         bench_off();
         want_records(ended.end, on ? 6 : 1, row);
     } else if (is(row, "report_out_on") || is(row, "report_out_done")) {
         int on = is(row, "report_out_on");
         s = begun(s, 1, 0, on ? LONG : SHORT);
         bench_on();
-        report__report_out(&ended, &list, 0, &s, 1, on ? 255 : 8, 1024);
+        transfer_report__report_out(&ended, &list, 0, &s, 1, on ? 255 : 8, 1024);
         bench_off();
         want_records(ended.end, on ? 6 : 1, row);
     } else if (is(row, "take_busy") || is(row, "take_done")) {
@@ -167,11 +167,11 @@ int side_run(const char *row) {
         int done = is(row, "take_done");
         s = begun(s, 1, 1, SHORT);
         if (done) {
-            report__report_in(&ended, &list, 0, &s, 1);
+            transfer_report__report_in(&ended, &list, 0, &s, 1);
             s = ended.state;
         }
         bench_on();
-        finish__take(&t, &s, &events, 1, 1);
+        transfer_finish__take(&t, &s, &events, 1, 1);
         bench_off();
         want(done ? t.answer.kind == 2 && t.answer.value == SHORT : t.answer.kind == 1, row);
         want_records(0, 0, row);
@@ -180,7 +180,7 @@ int side_run(const char *row) {
         int busy = is(row, "abandon_busy");
         if (busy) s = begun(s, 1, 1, SHORT);
         bench_on();
-        finish__abandon(&a, &list, &s, &events, 1, 1);
+        transfer_finish__abandon(&a, &list, &s, &events, 1, 1);
         bench_off();
         want(a.answer.kind == 1 && a.answer.value == (busy ? 100 : 0), row);
         want_records(a.end, busy ? 3 : 0, row);
@@ -188,14 +188,14 @@ int side_run(const char *row) {
         int stalled = !is(row, "unstall"), busy = is(row, "stall_busy");
         if (busy) s = begun(s, 1, 1, SHORT);
         bench_on();
-        orders__endpoint_set_stalled(&r, &list, &s, &events, 1, 1, stalled);
+        bus_order__endpoint_set_stalled(&r, &list, &s, &events, 1, 1, stalled);
         bench_off();
         want(r.answer.kind == 1 && r.wakes.slots == 1 << 3, row);
         want_records(r.end, !stalled ? 4 : busy ? 5 : 2, row);
     } else if (is(row, "enable") || is(row, "disable")) {
         int enabled = is(row, "enable");
         bench_on();
-        orders__endpoint_set_enabled(&r, &list, &s, &events, 1, 1, enabled);
+        bus_order__endpoint_set_enabled(&r, &list, &s, &events, 1, 1, enabled);
         bench_off();
         want(r.answer.kind == 1 && r.wakes.slots == 1 << 3, row);
         want_records(r.end, enabled ? 10 : 5, row);
@@ -203,47 +203,47 @@ int side_run(const char *row) {
         Query query;
         int enabled = is(row, "is_enabled");
         bench_on();
-        if (enabled) orders__is_enabled(&query, &s, &events, 1, 1);
-        else orders__is_stalled(&query, &s, &events, 1, 1);
+        if (enabled) bus_order__is_enabled(&query, &s, &events, 1, 1);
+        else bus_order__is_stalled(&query, &s, &events, 1, 1);
         bench_off();
         want(query.kind == 1 && query.value == enabled, row);
         want_records(0, 0, row);
     } else if (is(row, "power_on")) {
         s = off;
         bench_on();
-        power__power_on(&r, &list, &s, &events, REVISION);
+        bus_power__power_on(&r, &list, &s, &events, REVISION);
         bench_off();
         want(r.answer.kind == 1, row);
         want_records(r.end, 127, row);
     } else if (is(row, "power_off")) {
         bench_on();
-        power__power_off(&r, &list, &s, &events);
+        bus_power__power_off(&r, &list, &s, &events);
         bench_off();
         want(r.answer.kind == 2, row);
         want_records(r.end, 8, row);
     } else if (is(row, "start")) {
         static StartResult started;
         bench_on();
-        start__start(&started, &fresh, &events, &driver, 512);
+        driver_start__start(&started, &fresh, &events, &driver, 512);
         bench_off();
         want(started.answer.kind == 1 && started.events.bits == POWER, row);
         want_records(0, 0, row);
     } else if (is(row, "bus_reset")) {
         bench_on();
-        reset__bus_reset(&ended, &list, 0, &s);
+        bus_reset__bus_reset(&ended, &list, 0, &s);
         bench_off();
         want_records(ended.end, 83, row);
     } else if (is(row, "raise")) {
         RaiseResult raised;
         bench_on();
-        events__raise(&raised, &events, RESET);
+        state_events__raise(&raised, &events, RESET);
         bench_off();
         want(raised.answer.kind == 1 && raised.events.bits == two.bits, row);
         want_records(0, 0, row);
     } else if (is(row, "poll")) {
         PollResult polled;
         bench_on();
-        events__poll(&polled, &two);
+        state_events__poll(&polled, &two);
         bench_off();
         want(polled.answer.kind == 2 && polled.answer.value == 0 && polled.events.bits == RESET, row);
         want_records(0, 0, row);
@@ -251,7 +251,7 @@ int side_run(const char *row) {
         if (is(row, "sound_busy"))
             for (int i = 2; i < 16; i++) s = begun(s, i / 2, i % 2, SHORT);
         bench_on();
-        _Bool sound = sound__sound(&s, &events);
+        _Bool sound = state_sound__sound(&s, &events);
         bench_off();
         want(sound, row);
         want_records(0, 0, row);

@@ -13,21 +13,21 @@ use Rattle.state.specs.declared.Phase.the-variants.{Idle}
 use Rattle.state.specs.declared.State.{State}
 use Rattle.state.specs.declared.Events.{Events}
 use Rattle.state.specs.Fresh.{freshSlot, freshState, slotAt}
-use Rattle.slots.specs.Slots.{busyb, slotNumber, stateWith}
+use Rattle.state_slots.specs.Slots.{busyb, slotNumber, stateWith}
 use Rattle.state.specs.declared.EndpointType.{EndpointType}
 use Rattle.state.specs.declared.EndpointType.the-variants.{Bulk, Interrupt}
 use Rattle.state.specs.declared.EndpointRequest.{EndpointRequest}
 use Rattle.state.specs.declared.Driver.{Driver}
-use Rattle.slots.specs.Each.{every, count}
-use Rattle.events.specs.Pending.{suspend, resume}
-use Rattle.events.specs.Events.{raiseEvents, pollAnswer, pollNumbers}
-use Rattle.sound.specs.Sound.{driverSoundb, soundb}
-use Rattle.allocate.specs.Rules.{lowest}
-use Rattle.allocate.specs.Allocate.{newCheck, newResult, newNumber, allocateCheck, placed, allocateResult, allocateNumbers}
-use Rattle.chains.specs.Chains.{chainPackets, chainBytes}
-use Rattle.window.specs.Window.{outWindow, windowsOps}
-use Rattle.transfer.specs.Begin.{Piece, piece, beginCheck, beginState, beginOps}
-use Rattle.report.specs.Report.{inReportOps, outReportState}
+use Rattle.state_slots.specs.Each.{every, count}
+use Rattle.state_events.specs.Pending.{suspend, resume}
+use Rattle.state_events.specs.Events.{raiseEvents, pollAnswer, pollNumbers}
+use Rattle.state_sound.specs.Sound.{driverSoundb, soundb}
+use Rattle.driver_allocate.specs.Rules.{lowest}
+use Rattle.driver_allocate.specs.Allocate.{newCheck, newResult, newNumber, allocateCheck, placed, allocateResult, allocateNumbers}
+use Rattle.transfer_chain.specs.Chains.{chainPackets, chainBytes}
+use Rattle.transfer_window.specs.Window.{outWindow, windowsOps}
+use Rattle.transfer_begin.specs.Begin.{Piece, piece, beginCheck, beginState, beginOps}
+use Rattle.transfer_report.specs.Report.{inReportOps, outReportState}
 
 -- numbers as answers have them: a refusal's, or 0 and then the values
 pub record Edge : Type 0 where

@@ -4,20 +4,20 @@
 mod answers;
 mod run;
 
-use input::Found;
+use tool_input::Found;
 
 fn main() {
-    print::header();
+    tool_print::header();
     every_line();
 }
 
 // The turns are counted down, so that the loop ends whatever the input does.
 fn every_line() {
     let mut buffer = [0u8; 4096];
-    let mut reader = input::at_start();
+    let mut reader = tool_input::at_start();
     let mut turns = u64::MAX;
     while 0 < turns {
-        let next = input::next_line(&mut buffer, reader);
+        let next = tool_input::next_line(&mut buffer, reader);
         let found = next.found;
         let start = next.start;
         let stop = next.stop;

@@ -3,19 +3,19 @@ ghost use Prim.Native.Nat.{_≤_};
 ghost use lib.ListN.{length};
 ghost use Rattle.ops.specs.Ops.{records};
 use super::answers;
-use lines::Line;
-use lines::Request;
-use report::Reported;
 use state::Buffer;
 use state::EndpointConfig;
 use state::EndpointType;
 use state::Events;
 use state::Slot;
 use state::State;
-use transfer::BeginAnswer;
+use tool_lines::Line;
+use tool_lines::Request;
+use transfer_begin::BeginAnswer;
+use transfer_report::Reported;
 
 pub fn line(text: &[u8]) {
-    let read = lines::read_line(text);
+    let read = tool_lines::read_line(text);
     match read {
         Line::Unreadable => answers::refused(0),
         Line::Readable(request) => run_transfer(request),
@@ -29,7 +29,7 @@ fn run_transfer(request: Request) {
     let state = enabled(request, index);
     let events = Events { events: 0 };
     let zlp = request.incoming & request.zlp;
-    let begun = transfer::begin(
+    let begun = transfer_begin::begin(
         &mut list,
         state,
         events,
@@ -46,7 +46,7 @@ fn run_transfer(request: Request) {
             answers::refused(number);
         }
         BeginAnswer::Begun => {
-            print::operations(&list, begun.end);
+            tool_print::operations(&list, begun.end);
             let first = begun.state;
             reports(&mut list, first, index, request);
         }
@@ -61,8 +61,8 @@ fn enabled(request: Request, index: u8) -> State {
         return fresh;
     }
     let slot = enabled_slot(request, index);
-    let i = slots::slot_number(index, request.incoming);
-    slots::with_slot(fresh, i, slot)
+    let i = state_slots::slot_number(index, request.incoming);
+    state_slots::with_slot(fresh, i, slot)
 }
 
 fn enabled_slot(request: Request, index: u8) -> Slot {
@@ -99,19 +99,19 @@ fn enabled_slot(request: Request, index: u8) -> Slot {
 fn reports(list: &mut [u32], begun: State, index: u8, request: Request)
     requires { ⌜ records 7 ≤ length (now list) ⌝ }
 {
-    let i = slots::slot_number(index, request.incoming);
+    let i = state_slots::slot_number(index, request.incoming);
     let mut state = begun;
     let mut turns = (request.length as u64) + 2;
     while 0 < turns {
-        let slot = slots::slot_at(state, i);
+        let slot = state_slots::slot_at(state, i);
         let phase = slot.phase;
-        let busy = slots::is_busy(phase);
+        let busy = state_slots::is_busy(phase);
         if !busy {
             answers::done(index as u32, slot.transfer.progress);
             return;
         }
         let reported = report_chain(list, state, index, request);
-        print::operations(list, reported.end);
+        tool_print::operations(list, reported.end);
         state = reported.state;
         turns = turns - 1;
     }
@@ -122,9 +122,9 @@ fn report_chain(list: &mut [u32], state: State, index: u8, request: Request) -> 
     requires { ⌜ records 7 ≤ length (now list) ⌝ }
 {
     if request.incoming {
-        return report::report_in(list, 0, state, index);
+        return transfer_report::report_in(list, 0, state, index);
     }
-    report::report_out(list, 0, state, index, 255, request.max_packet_size)
+    transfer_report::report_out(list, 0, state, index, 255, request.max_packet_size)
 }
 
 fn least(a: u32, b: u32) -> u32

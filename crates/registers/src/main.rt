@@ -97,9 +97,9 @@ fn cell(number: u32) {
 // The name of the one number that is not 0: a 0 names nothing.
 fn name(row: Row) {
     let mut out = [0u8; 60];
-    let register_end = names::register_name(&mut out, 0, row[0]);
-    let field_end = names::field_name(&mut out, register_end, row[1]);
-    let end = names::value_name(&mut out, field_end, row[2]);
+    let register_end = tool_names::register_name(&mut out, 0, row[0]);
+    let field_end = tool_names::field_name(&mut out, register_end, row[1]);
+    let end = tool_names::value_name(&mut out, field_end, row[2]);
     print(&out[0..end]);
 }
 

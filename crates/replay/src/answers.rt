@@ -7,12 +7,12 @@ use state::Wakes;
 
 pub fn answer(number: u32, value: u32, wakes: Wakes) {
     let mut text = [0u8; 60];
-    let a = print::put(&mut text, 0, b"answer");
+    let a = tool_print::put(&mut text, 0, b"answer");
     let b = cell(&mut text, a, number);
     let c = cell(&mut text, b, value);
     let d = cell(&mut text, c, wakes.bus as u32);
     let e = cell(&mut text, d, wakes.slots as u32);
-    let end = print::put(&mut text, e, b"\n");
+    let end = tool_print::put(&mut text, e, b"\n");
     io::write_all(STDOUT_FILENO, &text[0..end]);
 }
 
@@ -21,19 +21,19 @@ fn cell(text: &mut [u8], at: usize, n: u32) -> usize
     requires { ⌜ at + 11 ≤ length (now text) ⌝ }
     ensures { λ r. ⌜ r ≤ at + 11 ⌝ }
 {
-    let digits = print::put(text, at, b"\t");
-    print::put_number(text, digits, n)
+    let digits = tool_print::put(text, at, b"\t");
+    tool_print::put_number(text, digits, n)
 }
 
 // A value, and nobody to wake.
 pub fn done(value: u32) {
-    let wakes = slots::waking::no_wakes();
+    let wakes = state_slots::waking::no_wakes();
     answer(0, value, wakes);
 }
 
 pub fn refused(refusal: Refusal) {
     let number = state::refusals::refusal_number(refusal);
-    let wakes = slots::waking::no_wakes();
+    let wakes = state_slots::waking::no_wakes();
     answer(number, 0, wakes);
 }
 

@@ -3,17 +3,17 @@ use super::answers;
 use super::endpoints;
 use super::show;
 use super::transfers;
-use allocate::NewAnswer;
-use events::PollAnswer;
-use events::RaiseAnswer;
-use power::PowerAnswer;
-use power::PowerResult;
-use scripts::Word;
-use start::StartAnswer;
+use bus_power::PowerAnswer;
+use bus_power::PowerResult;
+use driver_allocate::NewAnswer;
+use driver_start::StartAnswer;
+use state_events::PollAnswer;
+use state_events::RaiseAnswer;
+use tool_scripts::Word;
 use world::World;
 
 pub fn call(list: &mut [u32; 640], world: World, line: &[u8]) -> World {
-    let word = scripts::read_call(line);
+    let word = tool_scripts::read_call(line);
     match word {
         Word::Unfit => {
             answers::unfit();
@@ -44,9 +44,9 @@ pub fn call(list: &mut [u32; 640], world: World, line: &[u8]) -> World {
 
 // Where creation is refused, the driver in the making stays.
 fn driver(world: World, line: &[u8]) -> World {
-    let address = scripts::number(line, 0);
-    let length = scripts::number(line, 1);
-    let made = allocate::new(address, length);
+    let address = tool_scripts::number(line, 0);
+    let length = tool_scripts::number(line, 1);
+    let made = driver_allocate::new(address, length);
     let answer = made.answer;
     match answer {
         NewAnswer::Refused(refusal) => {
@@ -62,7 +62,7 @@ fn driver(world: World, line: &[u8]) -> World {
 }
 
 fn start(world: World, line: &[u8]) -> World {
-    let size = scripts::number(line, 0);
+    let size = tool_scripts::number(line, 0);
     if 65535 < size {
         answers::unfit();
         return world;
@@ -70,7 +70,7 @@ fn start(world: World, line: &[u8]) -> World {
     let state = world.state;
     let events = world.events;
     let driver = world.driver;
-    let started = start::start(state, events, driver, size as u16);
+    let started = driver_start::start(state, events, driver, size as u16);
     let answer = started.answer;
     match answer {
         StartAnswer::Refused(refusal) => answers::refused(refusal),
@@ -86,22 +86,22 @@ fn start(world: World, line: &[u8]) -> World {
 }
 
 fn on(list: &mut [u32; 640], world: World, line: &[u8]) -> World {
-    let revision = scripts::number(line, 0);
+    let revision = tool_scripts::number(line, 0);
     let state = world.state;
     let events = world.events;
-    let result = power::power_on(list, state, events, revision);
+    let result = bus_power::power_on(list, state, events, revision);
     powered(list, world, result)
 }
 
 fn off(list: &mut [u32; 640], world: World) -> World {
     let state = world.state;
     let events = world.events;
-    let result = power::power_off(list, state, events);
+    let result = bus_power::power_off(list, state, events);
     powered(list, world, result)
 }
 
 fn powered(list: &[u32; 640], world: World, result: PowerResult) -> World {
-    print::operations(list, result.end);
+    tool_print::operations(list, result.end);
     let answer = result.answer;
     let wakes = result.wakes;
     match answer {
@@ -114,9 +114,9 @@ fn powered(list: &[u32; 640], world: World, result: PowerResult) -> World {
 }
 
 fn raise(world: World, line: &[u8]) -> World {
-    let event = scripts::number_up_to(line, 0, 255) as u8;
+    let event = tool_scripts::number_up_to(line, 0, 255) as u8;
     let events = world.events;
-    let raised = events::raise(events, event);
+    let raised = state_events::raise(events, event);
     let answer = raised.answer;
     match answer {
         RaiseAnswer::Refused(refusal) => answers::refused(refusal),
@@ -128,13 +128,13 @@ fn raise(world: World, line: &[u8]) -> World {
 
 fn poll(world: World) -> World {
     let events = world.events;
-    let polled = events::poll(events);
+    let polled = state_events::poll(events);
     let answer = polled.answer;
     match answer {
         PollAnswer::Refused(refusal) => answers::refused(refusal),
         PollAnswer::Nothing => answers::done(0),
         PollAnswer::Event(event) => {
-            let number = events::event_number(event);
+            let number = state_events::event_number(event);
             answers::done(number as u32);
         }
     }
@@ -146,8 +146,8 @@ fn poll(world: World) -> World {
 fn reset(list: &mut [u32; 640], world: World) -> World {
     let state = world.state;
     if state.powered {
-        let after = reset::bus_reset(list, 0, state);
-        print::operations(list, after.end);
+        let after = bus_reset::bus_reset(list, 0, state);
+        tool_print::operations(list, after.end);
         answers::done(0);
         let left = after.state;
         return world::with_state(world, left);

@@ -1,7 +1,7 @@
 // Line after line, through one buffer and one list.
 use super::answers;
 use super::calls;
-use input::Found;
+use tool_input::Found;
 use world::World;
 
 // The turns are counted down, so that the loop ends whatever the input does.
@@ -9,10 +9,10 @@ pub fn script() {
     let mut buffer = [0u8; 4096];
     let mut list = [0u32; 640];
     let mut world = world::fresh();
-    let mut reader = input::at_start();
+    let mut reader = tool_input::at_start();
     let mut turns = u64::MAX;
     while 0 < turns {
-        let next = input::next_line(&mut buffer, reader);
+        let next = tool_input::next_line(&mut buffer, reader);
         let found = next.found;
         let start = next.start;
         let stop = next.stop;

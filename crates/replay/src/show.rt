@@ -17,7 +17,7 @@ pub fn state(world: World) {
     awaits(state);
     let mut i: u8 = 0;
     while i < 16 {
-        let slot = slots::slot_at(state, i as usize);
+        let slot = state_slots::slot_at(state, i as usize);
         slot_line(i, slot);
         i = i + 1;
     }
@@ -30,8 +30,8 @@ fn text(bytes: &[u8]) {
 // A number behind its tab.
 fn number(n: u32) {
     let mut text = [0u8; 20];
-    let a = print::put(&mut text, 0, b"\t");
-    let end = print::put_number(&mut text, a, n);
+    let a = tool_print::put(&mut text, 0, b"\t");
+    let end = tool_print::put_number(&mut text, a, n);
     io::write_all(STDOUT_FILENO, &text[0..end]);
 }
 

@@ -1,24 +1,24 @@
 // Transfers: begin, take, abandon, and the report of a chain.
 use super::answers;
-use finish::AbandonAnswer;
-use finish::TakeAnswer;
-use report::Reported;
 use state::Events;
 use state::State;
 use state::Wakes;
-use transfer::BeginAnswer;
+use transfer_begin::BeginAnswer;
+use transfer_finish::AbandonAnswer;
+use transfer_finish::TakeAnswer;
+use transfer_report::Reported;
 use world::World;
 
 pub fn begin(list: &mut [u32; 640], world: World, line: &[u8]) -> World {
-    let incoming = scripts::flag(line, 0);
-    let index = scripts::number_up_to(line, 1, 255) as u8;
-    let address = scripts::number(line, 2);
-    let length = scripts::number(line, 3);
-    let zlp = scripts::flag(line, 4);
+    let incoming = tool_scripts::flag(line, 0);
+    let index = tool_scripts::number_up_to(line, 1, 255) as u8;
+    let address = tool_scripts::number(line, 2);
+    let length = tool_scripts::number(line, 3);
+    let zlp = tool_scripts::flag(line, 4);
     let state = world.state;
     let events = world.events;
-    let begun = transfer::begin(list, state, events, index, incoming, address, length, zlp);
-    print::operations(list, begun.end);
+    let begun = transfer_begin::begin(list, state, events, index, incoming, address, length, zlp);
+    tool_print::operations(list, begun.end);
     let answer = begun.answer;
     let wakes = begun.wakes;
     match answer {
@@ -30,11 +30,11 @@ pub fn begin(list: &mut [u32; 640], world: World, line: &[u8]) -> World {
 }
 
 pub fn take(world: World, line: &[u8]) -> World {
-    let incoming = scripts::flag(line, 0);
-    let index = scripts::number_up_to(line, 1, 255) as u8;
+    let incoming = tool_scripts::flag(line, 0);
+    let index = tool_scripts::number_up_to(line, 1, 255) as u8;
     let state = world.state;
     let events = world.events;
-    let taken = finish::take(state, events, index, incoming);
+    let taken = transfer_finish::take(state, events, index, incoming);
     let answer = taken.answer;
     let wakes = taken.wakes;
     match answer {
@@ -47,12 +47,12 @@ pub fn take(world: World, line: &[u8]) -> World {
 }
 
 pub fn abandon(list: &mut [u32; 640], world: World, line: &[u8]) -> World {
-    let incoming = scripts::flag(line, 0);
-    let index = scripts::number_up_to(line, 1, 255) as u8;
+    let incoming = tool_scripts::flag(line, 0);
+    let index = tool_scripts::number_up_to(line, 1, 255) as u8;
     let state = world.state;
     let events = world.events;
-    let abandoned = finish::abandon(list, state, events, index, incoming);
-    print::operations(list, abandoned.end);
+    let abandoned = transfer_finish::abandon(list, state, events, index, incoming);
+    tool_print::operations(list, abandoned.end);
     let answer = abandoned.answer;
     let wakes = abandoned.wakes;
     match answer {
@@ -66,14 +66,14 @@ pub fn abandon(list: &mut [u32; 640], world: World, line: &[u8]) -> World {
 // A report stands for an interrupt of its own, so that it is asked of a data endpoint and with power.
 pub fn report(list: &mut [u32; 640], world: World, line: &[u8]) -> World {
     let state = world.state;
-    let index = scripts::number_up_to(line, 1, 255) as u8;
-    let data = slots::is_data_endpoint(index);
-    let packets = scripts::number(line, 2);
-    let last = scripts::number(line, 3);
+    let index = tool_scripts::number_up_to(line, 1, 255) as u8;
+    let data = state_slots::is_data_endpoint(index);
+    let packets = tool_scripts::number(line, 2);
+    let last = tool_scripts::number(line, 3);
     if state.powered & data & (packets < 256) & (last < 65536) {
-        let incoming = scripts::flag(line, 0);
+        let incoming = tool_scripts::flag(line, 0);
         let reported = report_chain(list, state, index, incoming, packets, last);
-        print::operations(list, reported.end);
+        tool_print::operations(list, reported.end);
         let after = reported.state;
         return interrupted(world, after);
     }
@@ -90,9 +90,9 @@ fn report_chain(
     last: u32,
 ) -> Reported {
     if incoming {
-        return report::report_in(list, 0, state, index);
+        return transfer_report::report_in(list, 0, state, index);
     }
-    report::report_out(list, 0, state, index, packets, last)
+    transfer_report::report_out(list, 0, state, index, packets, last)
 }
 
 // The end of the interrupt: the bus is woken where events are pending, and the slots collected are.

@@ -7,7 +7,7 @@ pub fn tallies(state: State) {
     text(b"slot\tbegun\tfinished\tcut\tbytes\n");
     let mut i: usize = 0;
     while i < 16 {
-        let slot = slots::slot_at(state, i);
+        let slot = state_slots::slot_at(state, i);
         let tally = slot.tally;
         perhaps(slot.configured, i, tally);
         i = i + 1;

@@ -14,7 +14,7 @@ pub fn run(list: &mut [u32; 640]) -> State {
     };
     let fresh = state::fresh::fresh();
     let driver = layout();
-    let started = start::start(fresh, events, driver, 512);
+    let started = driver_start::start(fresh, events, driver, 512);
     let off = started.state;
     let on = switched_on(list, off, events);
     let a = images(list, on, events);
@@ -26,7 +26,7 @@ pub fn run(list: &mut [u32; 640]) -> State {
 
 // Endpoint 1 in both directions, 2 for IN, 3 for OUT, and 4 for IN, which isn't used.
 fn layout() -> Driver {
-    let made = allocate::new(0x200A_0000, 8192);
+    let made = driver_allocate::new(0x200A_0000, 8192);
     let empty = made.driver;
     let a = endpoint(empty, true, 1, EndpointType::Bulk, 1024);
     let b = endpoint(a, false, 1, EndpointType::Bulk, 1024);
@@ -47,12 +47,12 @@ fn endpoint(driver: Driver, incoming: bool, index: u8, kind: EndpointType, size:
         max_streams: 0,
         mult: 0,
     };
-    let given = allocate::allocate(driver, incoming, request);
+    let given = driver_allocate::allocate(driver, incoming, request);
     given.driver
 }
 
 fn switched_on(list: &mut [u32; 640], state: State, events: Events) -> State {
-    let on = power::power_on(list, state, events, 3);
+    let on = bus_power::power_on(list, state, events, 3);
     let s = on.state;
     let a = enabled(list, s, events, 1, true, true);
     let b = enabled(list, a, events, 1, false, true);
@@ -99,7 +99,7 @@ fn small(list: &mut [u32; 640], state: State, events: Events) -> State {
 
 // A bus reset cuts what slots 2 and 3 have in hand; slot 5 begins anew.
 fn reset(list: &mut [u32; 640], state: State, events: Events) -> State {
-    let after = reset::bus_reset(list, 0, state);
+    let after = bus_reset::bus_reset(list, 0, state);
     let s = after.state;
     let a = enabled(list, s, events, 2, true, true);
     begun(list, a, events, 2, true, 100)
@@ -107,7 +107,7 @@ fn reset(list: &mut [u32; 640], state: State, events: Events) -> State {
 
 // What slot 5 has in hand is cut.
 fn switched_off(list: &mut [u32; 640], state: State, events: Events) -> State {
-    let off = power::power_off(list, state, events);
+    let off = bus_power::power_off(list, state, events);
     off.state
 }
 
@@ -119,7 +119,7 @@ fn enabled(
     incoming: bool,
     enabled: bool,
 ) -> State {
-    let order = orders::endpoint_set_enabled(list, state, events, index, incoming, enabled);
+    let order = bus_order::endpoint_set_enabled(list, state, events, index, incoming, enabled);
     order.state
 }
 
@@ -131,7 +131,7 @@ fn stalled(
     incoming: bool,
     stalled: bool,
 ) -> State {
-    let order = orders::endpoint_set_stalled(list, state, events, index, incoming, stalled);
+    let order = bus_order::endpoint_set_stalled(list, state, events, index, incoming, stalled);
     order.state
 }
 
@@ -143,12 +143,12 @@ fn begun(
     incoming: bool,
     length: u32,
 ) -> State {
-    let begin = transfer::begin(list, state, events, index, incoming, BUFFER, length, false);
+    let begin = transfer_begin::begin(list, state, events, index, incoming, BUFFER, length, false);
     begin.state
 }
 
 fn taken(state: State, events: Events, index: u8, incoming: bool) -> State {
-    let take = finish::take(state, events, index, incoming);
+    let take = transfer_finish::take(state, events, index, incoming);
     take.state
 }
 
@@ -159,16 +159,16 @@ fn abandoned(
     index: u8,
     incoming: bool,
 ) -> State {
-    let given_up = finish::abandon(list, state, events, index, incoming);
+    let given_up = transfer_finish::abandon(list, state, events, index, incoming);
     given_up.state
 }
 
 fn sent(list: &mut [u32; 640], state: State, index: u8) -> State {
-    let report = report::report_in(list, 0, state, index);
+    let report = transfer_report::report_in(list, 0, state, index);
     report.state
 }
 
 fn received(list: &mut [u32; 640], state: State, index: u8, packets: u32, last: u32) -> State {
-    let report = report::report_out(list, 0, state, index, packets, last);
+    let report = transfer_report::report_out(list, 0, state, index, packets, last);
     report.state
 }

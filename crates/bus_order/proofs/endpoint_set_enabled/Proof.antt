@@ -1,0 +1,54 @@
+-- `endpoint_set_enabled`: the order is obeyed where its slot lies. Assumes nothing.
+use Rattle.bus_order.specs.Orders.{orderCheck, order-told}
+use Rattle.bus_order.specs.declared.Order.the-variants.{Enable}
+use borrow.Author.Needs.{needs}
+use Rattle.bus_order.proofs.endpoint_set_enabled.Statement.{statement}
+use Rattle.bus_order.proofs.endpoint_set_enabled.Tie as tie
+
+sound-requires : tie.Need-sound-requires
+sound-requires c κs = search needs
+
+slot-place-requires : tie.Need-slot-place-requires
+slot-place-requires c κs = search needs
+
+mul-x : tie.Need-mul-x
+mul-x c = search needs
+
+element-copy-out-x : tie.Need-element-copy-out-x
+element-copy-out-x c = search needs
+
+obey-requires : tie.Need-obey-requires
+obey-requires c κs = search needs
+
+mul-y : tie.Need-mul-y
+mul-y c = search needs
+
+element-set-from-y : tie.Need-element-set-from-y
+element-set-from-y c = search needs
+
+same-length : tie.Need-same-length
+same-length c = search needs
+
+returns : tie.Need-returns
+unfolding orderCheck
+returns c =
+    let o = c .before .before .before .before in
+    let p = o .before .before .before in
+    let g = p .before .before in
+    let a = g .before .before .args in
+    let e = rw (g .sound .ensures, p .slot-place .ensures) at (o .obey .ensures) in
+    rw (p .slot-place .ensures) (order-told (o .obey .result) _ _ (a .state) (a .events) (a .index) (a .incoming) (Enable (a .enabled)) (e .0) (e .1))
+
+pub endpoint-set-enabled-spec : {M : Type 1} → statement M
+endpoint-set-enabled-spec =
+    tie.close
+    (tie.spec
+    sound-requires
+    slot-place-requires
+    mul-x
+    element-copy-out-x
+    obey-requires
+    mul-y
+    element-set-from-y
+    same-length
+    returns)

@@ -1,0 +1,127 @@
+// Power on and off (reference: `Bus` of device.rs).
+ghost use mathlib.Core.Path.{_≡_};
+ghost use Prim.Native.Nat.{_≤_};
+ghost use lib.ListN.{length};
+ghost use Rattle.ops.specs.Wrote.{Wrote};
+ghost use Rattle.state.specs.Numbers.{checkNumber};
+ghost use Rattle.state.specs.Refusals.{firstDue};
+ghost use Rattle.state_sound.specs.Turn.{admittedOf};
+ghost use Rattle.bus_power.specs.Power.{shutOps, ownDues, onCheck, offCheck, powerOnResult, powerOnList, powerOffResult, powerOffList, powerNumber};
+use state::Awaited;
+use state::Check;
+use state::Events;
+use state::Refusal;
+use state::State;
+use state::Wakes;
+
+pub enum PowerAnswer {
+    Refused(Refusal),
+    Powered,
+    Off,
+}
+
+// `end`: how many numbers of the list are taken.
+pub struct PowerResult {
+    pub state: State,
+    pub answer: PowerAnswer,
+    pub end: usize,
+    pub wakes: Wakes,
+}
+
+// The registers of a device that is on are shut down.
+fn shut(ops: &mut [u32], powered: bool) -> usize
+    requires { ⌜ 640 ≤ length (now ops) ⌝ }
+    ensures { λ r. ⌜ Wrote (now (ops .entry)) 0 (shutOps powered) r (now (ops .exit)) ⌝ }
+{
+    if powered {
+        return regs_device::shutdown(ops, 0);
+    }
+    0
+}
+
+fn on_check(room: usize, good: bool, awaited: Awaited, ep0_address: u32, revision: u32) -> Check
+    ensures { λ r. ⌜ r ≡ admittedOf room good (awaited .next) (firstDue (ownDues revision «ep0_address»)) ⌝ }
+{
+    let started = state::refusals::first(ep0_address == 0, Refusal::Disabled, Check::Fits);
+    let own = state::refusals::first(15 < revision, Refusal::OutOfRange, started);
+    state_sound::admit(room, good, awaited, own)
+}
+
+// Brings the link up and resets the bus. `revision` is the chip's, which the caller has read.
+pub fn power_on(ops: &mut [u32], state: State, events: Events, revision: u32) -> PowerResult
+    ensures result { λ r. ⌜ r ≡ powerOnResult (length (now (ops .entry))) state events revision ⌝ }
+    ensures list { λ r. ⌜ Wrote (now (ops .entry)) 0 (powerOnList (length (now (ops .entry))) state events revision) (r .end) (now (ops .exit)) ⌝ }
+    ensures number { λ r. ⌜ powerNumber (r .answer) ≡ checkNumber (onCheck (length (now (ops .entry))) state events revision) ⌝ }
+{
+    let good = state_sound::sound(state, events);
+    let awaited = state.awaited;
+    let check = on_check(ops.len(), good, awaited, state.ep0_address, revision);
+    if let Check::Refused(refusal) = check {
+        let wakes = state_slots::waking::no_wakes();
+        return PowerResult {
+            state: state,
+            answer: PowerAnswer::Refused(refusal),
+            end: 0,
+            wakes: wakes,
+        };
+    }
+    let wakes = state_slots::waking::wake_all();
+    if state.powered {
+        return PowerResult {
+            state: state,
+            answer: PowerAnswer::Powered,
+            end: 0,
+            wakes: wakes,
+        };
+    }
+    let a = regs_link::init(ops, 0, revision);
+    let reset = bus_reset::bus_reset(ops, a, state);
+    let mut s = reset.state;
+    s.revision = revision as u8;
+    s.powered = true;
+    s.reset_seen = false;
+    PowerResult {
+        state: s,
+        answer: PowerAnswer::Powered,
+        end: reset.end,
+        wakes: wakes,
+    }
+}
+
+// Leaves the bus; what is in hand is cut.
+pub fn power_off(ops: &mut [u32], state: State, events: Events) -> PowerResult
+    ensures result { λ r. ⌜ r ≡ powerOffResult (length (now (ops .entry))) state events ⌝ }
+    ensures list { λ r. ⌜ Wrote (now (ops .entry)) 0 (powerOffList (length (now (ops .entry))) state events) (r .end) (now (ops .exit)) ⌝ }
+    ensures number { λ r. ⌜ powerNumber (r .answer) ≡ checkNumber (offCheck (length (now (ops .entry))) state events) ⌝ }
+{
+    let mut s = state;
+    let good = state_sound::sound(s, events);
+    let awaited = s.awaited;
+    let check = state_sound::admit(ops.len(), good, awaited, Check::Fits);
+    if let Check::Refused(refusal) = check {
+        let wakes = state_slots::waking::no_wakes();
+        return PowerResult {
+            state: s,
+            answer: PowerAnswer::Refused(refusal),
+            end: 0,
+            wakes: wakes,
+        };
+    }
+    let wakes = state_slots::waking::wake_all();
+    let end = shut(ops, s.powered);
+    let mut i: usize = 0;
+    while i < 16 {
+        let x = s.endpoints[i];
+        let y = state_slots::reset(x, 2 <= i, false);
+        s.endpoints[i] = y;
+        i = i + 1;
+    }
+    s.powered = false;
+    s.has_setup = false; // a SETUP that nobody has fetched
+    PowerResult {
+        state: s,
+        answer: PowerAnswer::Off,
+        end: end,
+        wakes: wakes,
+    }
+}

@@ -1,0 +1,42 @@
+// The reset of the bus (reference: `bus_reset` of device.rs).
+ghost use mathlib.Core.Path.{_≡_};
+ghost use Prim.Native.Nat.{_+_, _≤_};
+ghost use lib.ListN.{length};
+ghost use Rattle.ops.specs.Ops.{records};
+ghost use Rattle.ops.specs.Wrote.{Wrote};
+ghost use Rattle.regs_device.specs.Room.{busResetOps};
+ghost use Rattle.bus_reset.specs.Reset.{busResetState};
+use state::State;
+
+// What a bus reset leaves.
+pub struct Reset {
+    pub state: State,
+    pub end: usize,
+}
+
+// Protocol layer, endpoints, address and control transfer start over.
+pub fn bus_reset(ops: &mut [u32], at: usize, state: State) -> Reset
+    requires { ⌜ at + records 83 ≤ length (now ops) ⌝ }
+    ensures state { λ r. ⌜ r .state ≡ busResetState state ⌝ }
+    ensures list { λ r. ⌜ Wrote (now (ops .entry)) at (busResetOps (state .«ep0_address»)) (r .end) (now (ops .exit)) ⌝ }
+{
+    let mut s = state;
+    let a = regs_device::protocol_reset(ops, at, s.ep0_address);
+    let end = regs_link::link_power_allow(ops, a, false);
+    let generation = std::num::wrapping_add_u32(s.control_generation, 1);
+    let mut i: usize = 0;
+    while i < 16 {
+        let x = s.endpoints[i];
+        let y = state_slots::reset(x, 2 <= i, i < 2);
+        s.endpoints[i] = y;
+        i = i + 1;
+    }
+    s.suspended = false;
+    s.low_power = false;
+    s.has_setup = false;
+    s.control_generation = generation;
+    s.has_address = false;
+    s.in_last = false;
+    s.wake = 65535;
+    Reset { state: s, end: end }
+}

@@ -1,0 +1,26 @@
+-- `new_check`: the refusals in their sequence. Assumes nothing.
+use borrow.Author.Needs.{needs}
+use Rattle.driver_allocate.specs.Allocate.{newCheck}
+use Rattle.driver_allocate.proofs.new_check.Statement.{statement}
+use Rattle.driver_allocate.proofs.new_check.Tie as tie
+
+in-ram-requires : tie.Need-in-ram-requires
+in-ram-requires c κs = search needs
+
+capacity-of-requires : tie.Need-capacity-of-requires
+capacity-of-requires c κs = search needs
+
+first-requires : tie.Need-first-requires
+first-requires c κs = search needs
+
+first-requires-2 : tie.Need-first-requires-2
+first-requires-2 c κs = search needs
+
+returns : tie.Need-returns
+unfolding newCheck
+returns c = cc
+
+pub new-check-spec : {M : Type 1} → statement M
+new-check-spec =
+    tie.close
+    (tie.spec in-ram-requires capacity-of-requires first-requires first-requires-2 returns)

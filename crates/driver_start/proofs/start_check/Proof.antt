@@ -1,0 +1,16 @@
+-- `start_check`: 26 and 24, then 6. Assumes nothing.
+use borrow.Author.Needs.{needs}
+use Rattle.driver_start.proofs.start_check.Statement.{statement}
+use Rattle.driver_start.proofs.start_check.Tie as tie
+
+first-requires : tie.Need-first-requires
+first-requires c κs = search needs
+
+turn-of-requires : tie.Need-turn-of-requires
+turn-of-requires c κs = search needs
+
+returns : tie.Need-returns
+returns c = rw (c .turn-of .ensures, c .before .first .ensures)
+
+pub start-check-spec : {M : Type 1} → statement M
+start-check-spec = tie.close (tie.spec first-requires turn-of-requires returns)

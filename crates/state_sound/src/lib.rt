@@ -1,0 +1,235 @@
+// Whether a state is sound (refusal 26). Each call that gets one asks it.
+ghost use mathlib.Core.Path.{_≡_};
+ghost use mathlib.Core.Bool.{true};
+ghost use Rattle.state_sound.specs.Clauses.{inRam, aligned, multiple, wholePackets};
+ghost use Rattle.state_sound.specs.Sound.{soundb, driverSoundb, configb, outb, busyClausesb, slotb, awaitedb, ownb, memoryb, allocationsb};
+ghost use Rattle.state_sound.specs.Turn.{turnOf, admittedOf};
+use state::Awaited;
+use state::Check;
+use state::Driver;
+use state::EndpointConfig;
+use state::Events;
+use state::Refusal;
+use state::Slot;
+use state::State;
+
+// Whether all of it lies in RAM. The sum is taken in 64 bits, so that it can't wrap.
+pub fn in_ram(address: u32, length: u32) -> bool
+    ensures { λ r. ⌜ r ≡ inRam address length ⌝ }
+{
+    let end = (address as u64) + (length as u64);
+    (0x200A0000 <= address) & (end <= 0x20180000)
+}
+
+pub fn is_aligned(address: u32) -> bool
+    ensures { λ r. ⌜ r ≡ aligned address ⌝ }
+{
+    address % 4 == 0
+}
+
+// A multiple of m, which isn't 0.
+pub fn is_multiple(n: u32, m: u32) -> bool
+    ensures { λ r. ⌜ r ≡ multiple n m ⌝ }
+{
+    if 0 < m {
+        return n % m == 0;
+    }
+    false
+}
+
+// A buffer of whole packets of m bytes, one at least. No division where it holds one packet, or one burst.
+fn whole_packets(size: u32, m: u16, burst: u8) -> bool
+    ensures { λ r. ⌜ r ≡ wholePackets size m ⌝ }
+{
+    let n = m as u32;
+    if size == n {
+        return 0 < n;
+    }
+    let most = (burst as u32 + 1) * n;
+    if size == most {
+        return 0 < n;
+    }
+    if 0 < size {
+        return is_multiple(size, n);
+    }
+    false
+}
+
+// A configuration of slot i.
+fn config_fits(i: usize, config: EndpointConfig) -> bool
+    ensures { λ r. ⌜ r ≡ configb i true config ⌝ }
+{
+    let number = state_slots::slot_number(config.index, config.incoming);
+    if number == i {
+        let m = config.max_packet_size;
+        let address = config.buffer.address;
+        let size = config.buffer.size;
+        let inside = in_ram(address, size);
+        let even = is_aligned(address);
+        if ((1 <= m) & (m <= 1024)) & (inside & even) {
+            return whole_packets(size, m, config.max_burst);
+        }
+    }
+    false
+}
+
+// A busy OUT transfer ends at whole packets and has some to come.
+fn out_sound(progress: u32, length: u32, m: u32) -> bool
+    ensures { λ r. ⌜ r ≡ outb progress length m ⌝ }
+{
+    let room = is_multiple(length, m);
+    let received = is_multiple(progress, m);
+    ((0 < length) & room) & (!(progress == length) & received)
+}
+
+fn busy_sound(i: usize, x: Slot) -> bool
+    ensures { λ r. ⌜ r ≡ busyClausesb i x ⌝ }
+{
+    let t = x.transfer;
+    let inside = in_ram(t.address, t.length);
+    let even = is_aligned(t.address);
+    if i % 2 == 1 {
+        return inside & even;
+    }
+    let out = out_sound(t.progress, t.length, x.config.max_packet_size as u32);
+    inside & (even & out)
+}
+
+// A slot: only an enabled one that isn't stalled has a transfer, and only while powered. The commonest kind, configured
+// and idle, is out of it first.
+fn slot_sound(powered: bool, i: usize, x: Slot) -> bool
+    ensures { λ r. ⌜ r ≡ slotb powered i x ⌝ }
+{
+    let config = x.config;
+    let phase = x.phase;
+    if x.configured {
+        let fits = config_fits(i, config);
+        if !fits {
+            return false;
+        }
+        if i < 2 {
+            return true;
+        }
+        if x.transfer.length < x.transfer.progress {
+            return false;
+        }
+        let idle = state_slots::is_idle(phase);
+        if idle {
+            return true;
+        }
+        if (powered & x.enabled) & !x.stalled {
+            let busy = state_slots::is_busy(phase);
+            if busy {
+                return busy_sound(i, x);
+            }
+            return true;
+        }
+        return false;
+    }
+    if i < 2 {
+        return true;
+    }
+    let idle = state_slots::is_idle(phase);
+    (idle & !x.enabled) & (x.transfer.progress <= x.transfer.length)
+}
+
+// The reading that an interrupt awaits.
+fn awaited_sound(powered: bool, awaited: Awaited) -> bool
+    ensures { λ r. ⌜ r ≡ awaitedb powered awaited ⌝ }
+{
+    let next = awaited.next;
+    let awaiting = state::readings::is_awaiting(next);
+    let chain = state::readings::is_chain_reading(next);
+    let e = awaited.endpoint;
+    (!awaiting | powered) & (!chain | ((1 <= e) & (e <= 7)))
+}
+
+// The state apart from its slots.
+fn own_sound(state: State, events: Events) -> bool
+    ensures { λ r. ⌜ r ≡ ownb state events ⌝ }
+{
+    let inside = in_ram(state.ep0_address, 512);
+    let apart = state_events::events_sound(events);
+    let awaited = state.awaited;
+    let asked = awaited_sound(state.powered, awaited);
+    ((state.ep0_address == 0) | inside)
+        & (apart & ((!state.has_address | (state.address <= 127)) & ((state.tx_seq <= 31) & asked)))
+}
+
+pub fn sound(state: State, events: Events) -> bool
+    ensures { λ r. ⌜ r ≡ soundb state events ⌝ }
+{
+    let own = own_sound(state, events);
+    if !own {
+        return false;
+    }
+    let mut i: usize = 0;
+    while i < 16 {
+        let x = state.endpoints[i];
+        let good = slot_sound(state.powered, i, x);
+        if !good {
+            return false;
+        }
+        i = i + 1;
+    }
+    true
+}
+
+// A configuration of slot i, where there is one.
+fn allocation_sound(i: usize, configured: bool, config: EndpointConfig) -> bool
+    ensures { λ r. ⌜ r ≡ configb i configured config ⌝ }
+{
+    if configured {
+        return config_fits(i, config);
+    }
+    true
+}
+
+fn allocations_sound(driver: Driver) -> bool
+    ensures { λ r. ⌜ r ≡ allocationsb driver 16 ⌝ }
+{
+    let mut ok = true;
+    let mut i: usize = 0;
+    while i < 16 {
+        let a = driver.endpoints[i];
+        let config = a.config;
+        let good = allocation_sound(i, a.configured, config);
+        ok = ok & good;
+        i = i + 1;
+    }
+    ok
+}
+
+fn memory_sound(memory: u32, capacity: u32, used: u32) -> bool
+    ensures { λ r. ⌜ r ≡ memoryb memory capacity used ⌝ }
+{
+    let inside = in_ram(memory, capacity);
+    let even = is_aligned(memory);
+    inside & ((512 <= capacity) & (even & ((512 <= used) & (used <= capacity))))
+}
+
+pub fn driver_sound(driver: Driver) -> bool
+    ensures { λ r. ⌜ r ≡ driverSoundb driver ⌝ }
+{
+    let endpoints = allocations_sound(driver);
+    let memory = memory_sound(driver.memory, driver.capacity, driver.used);
+    endpoints & memory
+}
+
+// 26 and 24, which every call asks, before its further tests: of what `sound` says, and of the reading awaited.
+pub fn turn_of(good: bool, awaited: Awaited, further: Check) -> Check
+    ensures { λ r. ⌜ r ≡ turnOf good (awaited .next) further ⌝ }
+{
+    let next = awaited.next;
+    let awaiting = state::readings::is_awaiting(next);
+    let turn = state::refusals::first(awaiting, Refusal::OutOfTurn, further);
+    state::refusals::first(!good, Refusal::Unsound, turn)
+}
+
+// The same of a call that is lent a list of so many numbers, with 10 before them.
+pub fn admit(room: usize, good: bool, awaited: Awaited, further: Check) -> Check
+    ensures { λ r. ⌜ r ≡ admittedOf room good (awaited .next) further ⌝ }
+{
+    let turn = turn_of(good, awaited, further);
+    state::refusals::first(room < 640, Refusal::ListTooShort, turn)
+}

@@ -1,0 +1,25 @@
+-- The name of an enumerated value is stored: each row of the table has the name of its number, by one computed test.
+-- Assumes nothing.
+use Rattle.tool_names.specs.Names.{valueName, valueNames}
+use Rattle.tool_names.specs.Rows.{named}
+use borrow.Author.Needs.{needs}
+use Rattle.tool_names.proofs.value_name.Statement.{statement}
+use Rattle.tool_names.proofs.value_name.Tie as tie
+
+slice-aggregate-store : tie.Need-slice-aggregate-store
+slice-aggregate-store c = search needs
+
+store-requires : tie.Need-store-requires
+store-requires c κs = search needs
+
+same-length : tie.Need-same-length
+same-length c = search needs
+
+returns : tie.Need-returns
+unfolding valueName
+returns c =
+    let s = c .before .before .store .ensures in
+    (named valueNames _ _ (s .0) tt, s .1)
+
+pub value-name-spec : {M : Type 1} → statement M
+value-name-spec = tie.close (tie.spec slice-aggregate-store store-requires same-length returns)

@@ -1,0 +1,22 @@
+-- `window_at`: written where the endpoint is busy. Assumes nothing.
+use borrow.Author.Needs.{needs}
+use Rattle.ops.specs.Wrote.{none}
+use Rattle.transfer_window.proofs.window_at.Statement.{statement}
+use Rattle.transfer_window.proofs.window_at.Tie as tie
+
+set-out-window-requires : tie.Need-set-out-window-requires
+set-out-window-requires c κs = search needs
+
+same-length : tie.Need-same-length
+same-length c = search needs
+
+returns : tie.Need-returns
+returns c =
+    let q = c .before .before in
+    rw (q .before .before .if1 .taken) (q .set-out-window .ensures)
+
+returns-2 : tie.Need-returns-2
+returns-2 c = rw (c .if1 .left) (none _ _)
+
+pub window-at-spec : {M : Type 1} → statement M
+window-at-spec = tie.close (tie.spec set-out-window-requires same-length returns returns-2)
