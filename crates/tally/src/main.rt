@@ -1,9 +1,6 @@
 // Runs a script of calls, and prints the tally of each configured slot.
-mod print;
-mod script;
-
 fn main() {
     let mut list = [0u32; 640];
-    let state = script::run(&mut list);
-    print::tallies(state);
+    let state = tool_tally::run(&mut list);
+    tool_tally_print::tallies(state);
 }

@@ -1,6 +1,9 @@
 pub mod Line
 pub mod Search
+pub mod SearchLaws
 pub mod Digits
+pub mod DigitsLaws
 pub mod Fields
-pub mod Read
+pub mod FieldsLaws
+pub mod ReadLaws
 pub mod Examples

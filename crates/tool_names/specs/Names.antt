@@ -1,26 +1,10 @@
 -- The names of registers, fields and enumerated values, as the Rust has them, and the bytes of a number's name.
 -- Assumes nothing.
 use Prim.Native.Nat.{ℕ}
-use Prim.Native.Char.{code}
-use Prim.Native.String.{String, [] as empty, _∷_ as _before_}
-use mathlib.Core.Bool.{cond}
+use Prim.Native.String.{String}
 use mathlib.Core.List.{List, [], _∷_}
-use lib.Dec.{eqb}
 use Rattle.ops.specs.Numbers as number
-
--- the room that is asked for to store a name: no name has more bytes
-abbrev pub room : ℕ
-room = 20
-
--- a text's bytes: each character here is ASCII
-abbrev pub bytes : String → List ℕ
-bytes empty = []
-bytes (c before s) = code c ∷ bytes s
-
--- the text beside a number in a table; none where the number is not in it
-abbrev pub nameOf : ℕ → List (ℕ × String) → String
-nameOf n [] = ""
-nameOf n ((k, name) ∷ rest) = cond (eqb n k) name (nameOf n rest)
+use Rattle.tool_rows.specs.Bytes.{bytes, nameOf}
 
 -- registers
 abbrev pub registerNames : List (ℕ × String)

@@ -3,11 +3,9 @@
 ghost use Prim.Native.Nat.{_+_, _≤_};
 ghost use lib.ListN.{length};
 ghost use Rattle.ops.specs.Stores.{Stored};
-ghost use Rattle.tool_names.specs.Names.{room, registerName, fieldName, valueName};
-ghost use Rattle.tool_names.specs.Rows.{rowName, nameAt};
-
-// A name, then blanks.
-type Row = [u8; 20];
+ghost use Rattle.tool_rows.specs.Bytes.{room};
+ghost use Rattle.tool_names.specs.Names.{registerName, fieldName, valueName};
+use tool_rows::Row;
 
 // A table has the name of each number in the row of that number. Zero names nothing.
 const REGISTERS: [Row; 42] = [
@@ -150,7 +148,7 @@ pub fn register_name(out: &mut [u8], at: usize, number: u32) -> usize
     ensures { λ r. ⌜ Stored (now (out .entry)) at (registerName number) r (now (out .exit)) ⌝ }
     ensures { λ r. ⌜ r ≤ at + room ⌝ }
 {
-    store(out, at, &REGISTERS, number)
+    tool_rows::store(out, at, &REGISTERS, number)
 }
 
 // The name of a field, stored likewise.
@@ -159,7 +157,7 @@ pub fn field_name(out: &mut [u8], at: usize, number: u32) -> usize
     ensures { λ r. ⌜ Stored (now (out .entry)) at (fieldName number) r (now (out .exit)) ⌝ }
     ensures { λ r. ⌜ r ≤ at + room ⌝ }
 {
-    store(out, at, &FIELDS, number)
+    tool_rows::store(out, at, &FIELDS, number)
 }
 
 // The name of an enumerated value, stored likewise.
@@ -168,35 +166,5 @@ pub fn value_name(out: &mut [u8], at: usize, number: u32) -> usize
     ensures { λ r. ⌜ Stored (now (out .entry)) at (valueName number) r (now (out .exit)) ⌝ }
     ensures { λ r. ⌜ r ≤ at + room ⌝ }
 {
-    store(out, at, &VALUES, number)
-}
-
-// The name in row `number` of a table, stored from `at` on: the end position. Past the table there is no name.
-fn store(out: &mut [u8], at: usize, table: &[Row], number: u32) -> usize
-    requires { ⌜ at + room ≤ length (now out) ⌝ }
-    ensures { λ r. ⌜ Stored (now (out .entry)) at (nameAt (now (table .entry)) number) r (now (out .exit)) ⌝ }
-    ensures { λ r. ⌜ r ≤ at + room ⌝ }
-{
-    let i = number as usize;
-    if table.len() <= i {
-        return at;
-    }
-    copy(out, at, table[i])
-}
-
-// A row's bytes up to its first blank, stored from `at` on: the end position.
-fn copy(out: &mut [u8], at: usize, row: Row) -> usize
-    requires { ⌜ at + room ≤ length (now out) ⌝ }
-    ensures { λ r. ⌜ Stored (now (out .entry)) at (rowName row) r (now (out .exit)) ⌝ }
-    ensures { λ r. ⌜ r ≤ at + room ⌝ }
-{
-    let mut n: usize = 0;
-    while n < 20 {
-        if row[n] == b' ' {
-            return at + n;
-        }
-        out[at + n] = row[n];
-        n += 1;
-    }
-    at + n
+    tool_rows::store(out, at, &VALUES, number)
 }

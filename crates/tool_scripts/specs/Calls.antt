@@ -7,7 +7,7 @@ use mathlib.Core.Path.{_≡_}
 use lib.ListN.{take, drop}
 use Rattle.tool_lines.specs.Line.{tab, fields}
 use Rattle.tool_lines.specs.Search.{seek}
-use Rattle.tool_lines.specs.Fields.{first-word}
+use Rattle.tool_lines.specs.FieldsLaws.{first-word}
 use Rattle.tool_scripts.specs.declared.Meant.{Meant}
 use Rattle.tool_scripts.specs.declared.Word.the-variants.{Unfit}
 use Rattle.tool_scripts.specs.Script.{meaningOf, numbersFit, readCall}

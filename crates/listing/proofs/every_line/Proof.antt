@@ -6,10 +6,10 @@ use Rattle.listing.proofs.every_line.Statement.{statement}
 use Rattle.listing.proofs.every_line.Tie as tie
 
 abbrev Inv-loop : tie.InvT-loop
-Inv-loop buffer₀ reader₀ turns₀ buffer reader turns = length buffer ≡ 4096
+Inv-loop buffer₀ list₀ reader₀ turns₀ buffer list reader turns = length buffer ≡ 4096
 
 abbrev μ-loop : tie.MeasureT-loop
-μ-loop buffer₀ reader₀ turns₀ buffer reader turns = turns
+μ-loop buffer₀ list₀ reader₀ turns₀ buffer list reader turns = turns
 
 at-start-requires : tie.Need-at-start-requires Inv-loop μ-loop
 at-start-requires c κs = search needs

@@ -1,5 +1,5 @@
 -- The search of the kit's crate, of the bytes up to their end; past the end nothing is found. Assumes nothing.
-use Rattle.tool_lines.specs.Search.{seek-past, seek-all}
+use Rattle.tool_lines.specs.SearchLaws.{seek-past, seek-all}
 use borrow.Author.Needs.{needs}
 use Rattle.tool_lines.proofs.first.Statement.{statement}
 use Rattle.tool_lines.proofs.first.Tie as tie

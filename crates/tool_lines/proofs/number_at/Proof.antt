@@ -4,8 +4,8 @@ use native.Mathlib.Omega.{arith}
 use denote.Ref.{now}
 use lib.ListN.{length}
 use Rattle.tool_lines.specs.Line.{tab}
-use Rattle.tool_lines.specs.Search.{seek-le}
-use Rattle.tool_lines.specs.Fields.{read-past, read-field}
+use Rattle.tool_lines.specs.SearchLaws.{seek-le}
+use Rattle.tool_lines.specs.FieldsLaws.{read-past, read-field}
 use borrow.Author.Needs.{needs}
 use Rattle.tool_lines.proofs.number_at.Statement.{statement}
 use Rattle.tool_lines.proofs.number_at.Tie as tie

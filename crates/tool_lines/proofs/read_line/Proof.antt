@@ -4,9 +4,10 @@ use native.Mathlib.Omega.{arith}
 use denote.Ref.{now}
 use lib.ListN.{length, take}
 use Rattle.tool_lines.specs.Line.{tab}
-use Rattle.tool_lines.specs.Search.{seek-le}
-use Rattle.tool_lines.specs.Fields.{first-word}
-use Rattle.tool_lines.specs.Read.{same-told, Read, line-read, line-refused}
+use Rattle.tool_lines.specs.SearchLaws.{seek-le}
+use Rattle.tool_lines.specs.FieldsLaws.{first-word}
+use Rattle.tool_lines.specs.ReadLaws.{Read}
+use Rattle.tool_lines.specs.ReadLaws.{same-told, line-read, line-refused}
 use borrow.Author.Needs.{needs}
 use Rattle.tool_lines.proofs.read_line.Statement.{statement}
 use Rattle.tool_lines.proofs.read_line.Tie as tie

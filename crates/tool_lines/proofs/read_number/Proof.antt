@@ -6,7 +6,8 @@ use native.Mathlib.Omega.{arith}
 use borrow.Author.Needs.{needs}
 use borrow.Author.Tests.{not-true, not-false}
 use lib.ListN.{length, getD}
-use Rattle.tool_lines.specs.Digits.{Reading, reading-none, reading-more, no-digits, no-digit, too-large, refused, accepted, digit-bounds}
+use Rattle.tool_lines.specs.Digits.{Reading}
+use Rattle.tool_lines.specs.DigitsLaws.{reading-none, reading-more, no-digits, no-digit, too-large, refused, digits-accepted, digit-bounds}
 use Rattle.tool_lines.proofs.read_number.Statement.{statement}
 use Rattle.tool_lines.proofs.read_number.Tie as tie
 
@@ -76,7 +77,7 @@ loop-again c =
 returns-4 : tie.Need-returns-4 Inv-loop μ-loop
 returns-4 c =
     let l = c .before .loop in
-    accepted _ (l .i) (l .value) (l .inv .0 .1) (l .inv .0 .2) (omega arith) (l .inv .1)
+    digits-accepted _ (l .i) (l .value) (l .inv .0 .1) (l .inv .0 .2) (omega arith) (l .inv .1)
 
 pub read-number-spec : {M : Type 1} → statement M
 read-number-spec =

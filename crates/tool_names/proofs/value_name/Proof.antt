@@ -1,7 +1,7 @@
 -- The name of an enumerated value is stored: each row of the table has the name of its number, by one computed test.
 -- Assumes nothing.
 use Rattle.tool_names.specs.Names.{valueName, valueNames}
-use Rattle.tool_names.specs.Rows.{named}
+use Rattle.tool_rows.specs.RowsLaws.{rows-named}
 use borrow.Author.Needs.{needs}
 use Rattle.tool_names.proofs.value_name.Statement.{statement}
 use Rattle.tool_names.proofs.value_name.Tie as tie
@@ -19,7 +19,7 @@ returns : tie.Need-returns
 unfolding valueName
 returns c =
     let s = c .before .before .store .ensures in
-    (named valueNames _ _ (s .0) tt, s .1)
+    (rows-named valueNames _ _ (s .0) tt, s .1)
 
 pub value-name-spec : {M : Type 1} → statement M
 value-name-spec = tie.close (tie.spec slice-aggregate-store store-requires same-length returns)

@@ -1,6 +1,6 @@
 -- `put`: the bytes stand from the position on. Assumes nothing.
 use borrow.Author.Needs.{needs}
-use Rattle.tool_print.specs.Text.{part-stored}
+use Rattle.tool_print.specs.TextLaws.{part-stored}
 use Rattle.tool_print.proofs.put.Statement.{statement}
 use Rattle.tool_print.proofs.put.Tie as tie
 

@@ -9,7 +9,7 @@ use Rattle.io.specs.Digits.{Fewest}
 use native.Mathlib.Omega.{arith}
 use lib.ListN.{length, take, length-take}
 use borrow.Author.Needs.{needs}
-use Rattle.tool_print.specs.Text.{number-stored}
+use Rattle.tool_print.specs.TextLaws.{number-stored}
 use Rattle.tool_print.proofs.put_number.Statement.{statement}
 use Rattle.tool_print.proofs.put_number.Tie as tie
 

@@ -1,7 +1,7 @@
 -- The word ends with the line or before. Assumes nothing.
 use native.Mathlib.Omega.{arith}
 use denote.Ref.{now}
-use Rattle.tool_scripts.specs.Numbers.{word-within, behind-word}
+use Rattle.tool_scripts.specs.NumbersLaws.{word-within, behind-word}
 use borrow.Author.Needs.{needs}
 use Rattle.tool_scripts.proofs.behind_word.Statement.{statement}
 use Rattle.tool_scripts.proofs.behind_word.Tie as tie

@@ -1,5 +1,5 @@
 -- The picks one after the other, from the last row of the table to the first. Assumes nothing.
-use Rattle.tool_scripts.specs.Rows.{_over_, no-rows, all-rows}
+use Rattle.tool_scripts.specs.RowsLaws.{_over_, no-rows, all-rows}
 use borrow.Author.Needs.{needs}
 use Rattle.tool_scripts.proofs.meaning.Statement.{statement}
 use Rattle.tool_scripts.proofs.meaning.Tie as tie

@@ -4,7 +4,8 @@ use mathlib.Core.Path.{_≡_}
 use native.Mathlib.Omega.{arith}
 use lib.ListN.{drop}
 use Rattle.tool_lines.specs.Line.{fields}
-use Rattle.tool_lines.specs.Fields.{rest, at-field}
+use Rattle.tool_lines.specs.Fields.{rest}
+use Rattle.tool_lines.specs.FieldsLaws.{at-field}
 use borrow.Author.Needs.{needs}
 use Rattle.tool_scripts.proofs.number.Statement.{statement}
 use Rattle.tool_scripts.proofs.number.Tie as tie

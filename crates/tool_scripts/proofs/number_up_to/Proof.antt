@@ -1,6 +1,6 @@
 -- A number above the most is held to it. Assumes nothing.
 use borrow.Author.Needs.{needs}
-use Rattle.tool_scripts.specs.Numbers.{held-at, held-within}
+use Rattle.tool_scripts.specs.NumbersLaws.{held-at, held-within}
 use Rattle.tool_scripts.proofs.number_up_to.Statement.{statement}
 use Rattle.tool_scripts.proofs.number_up_to.Tie as tie
 

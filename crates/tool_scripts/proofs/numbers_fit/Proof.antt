@@ -1,6 +1,7 @@
 -- Each number in turn: those that are left decide. Assumes nothing.
 use Prim.Native.Nat.{_-_}
-use Rattle.tool_scripts.specs.Numbers.{Left, all-left, left-past, left-unfit, left-more, left-full}
+use Rattle.tool_scripts.specs.Numbers.{Left}
+use Rattle.tool_scripts.specs.NumbersLaws.{all-left, left-past, left-unfit, left-more, left-full}
 use borrow.Author.Needs.{needs}
 use borrow.Author.Tests.{not-true, not-false}
 use Rattle.tool_scripts.proofs.numbers_fit.Statement.{statement}

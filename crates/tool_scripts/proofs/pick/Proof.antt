@@ -1,7 +1,7 @@
 -- The comparison of the kit's crate decides. Assumes nothing.
 use mathlib.Core.Path.{_∙_, sym}
-use Rattle.tool_lines.specs.Read.{same-told}
-use Rattle.tool_scripts.specs.Rows.{its-name, other-name}
+use Rattle.tool_lines.specs.ReadLaws.{same-told}
+use Rattle.tool_scripts.specs.RowsLaws.{its-name, other-name}
 use borrow.Author.Needs.{needs}
 use Rattle.tool_scripts.proofs.pick.Statement.{statement}
 use Rattle.tool_scripts.proofs.pick.Tie as tie

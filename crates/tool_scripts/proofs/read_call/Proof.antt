@@ -4,7 +4,7 @@ use mathlib.Core.Path.{_≡_}
 use denote.Ref.{now}
 use Rattle.tool_scripts.specs.declared.Word.the-variants.{Unfit}
 use Rattle.tool_scripts.specs.Script.{readCall}
-use Rattle.tool_scripts.specs.Numbers.{word-within}
+use Rattle.tool_scripts.specs.NumbersLaws.{word-within}
 use Rattle.tool_scripts.specs.Calls.{call-told}
 use borrow.Author.Needs.{needs}
 use Rattle.tool_scripts.proofs.read_call.Statement.{statement}
