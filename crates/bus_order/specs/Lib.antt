@@ -1,3 +1,2 @@
-pub mod Orders
-pub mod Queries
-pub mod Keeps
+pub mod Order
+pub mod OrderLaws

@@ -1,2 +1,2 @@
 pub mod Power
-pub mod Keeps
+pub mod PowerLaws

@@ -2,11 +2,12 @@
 ghost use mathlib.Core.Path.{_≡_};
 ghost use Prim.Native.Nat.{_≤_};
 ghost use lib.ListN.{length};
+ghost use Rattle.ops.specs.Ops.{listNumbers};
 ghost use Rattle.ops.specs.Wrote.{Wrote};
 ghost use Rattle.state.specs.Numbers.{checkNumber};
-ghost use Rattle.state.specs.Refusals.{firstDue};
-ghost use Rattle.state_sound.specs.Turn.{admittedOf};
-ghost use Rattle.bus_power.specs.Power.{shutOps, ownDues, onCheck, offCheck, powerOnResult, powerOnList, powerOffResult, powerOffList, powerNumber};
+ghost use Rattle.state.specs.Refusals.{firstRefusal};
+ghost use Rattle.state_call.specs.Turn.{admittedOf};
+ghost use Rattle.bus_power.specs.Power.{onOwn, onConditions, powerOnCall, shutOps, offConditions, powerOffCall, powerNumber};
 use state::Awaited;
 use state::Check;
 use state::Events;
@@ -30,7 +31,7 @@ pub struct PowerResult {
 
 // The registers of a device that is on are shut down.
 fn shut(ops: &mut [u32], powered: bool) -> usize
-    requires { ⌜ 640 ≤ length (now ops) ⌝ }
+    requires { ⌜ listNumbers ≤ length (now ops) ⌝ }
     ensures { λ r. ⌜ Wrote (now (ops .entry)) 0 (shutOps powered) r (now (ops .exit)) ⌝ }
 {
     if powered {
@@ -40,18 +41,20 @@ fn shut(ops: &mut [u32], powered: bool) -> usize
 }
 
 fn on_check(room: usize, good: bool, awaited: Awaited, ep0_address: u32, revision: u32) -> Check
-    ensures { λ r. ⌜ r ≡ admittedOf room good (awaited .next) (firstDue (ownDues revision «ep0_address»)) ⌝ }
+    ensures { λ r. ⌜ r ≡ firstRefusal (admittedOf room good (awaited .next) (onOwn revision «ep0_address»)) ⌝ }
 {
-    let started = state::refusals::first(ep0_address == 0, Refusal::Disabled, Check::Fits);
-    let own = state::refusals::first(15 < revision, Refusal::OutOfRange, started);
-    state_sound::admit(room, good, awaited, own)
+    let started = state::refusals::refuse_if(ep0_address == 0, Refusal::Disabled, Check::Fits);
+    let own = state::refusals::refuse_if(15 < revision, Refusal::OutOfRange, started);
+    state_call::admit(room, good, awaited, own)
 }
 
 // Brings the link up and resets the bus. `revision` is the chip's, which the caller has read.
 pub fn power_on(ops: &mut [u32], state: State, events: Events, revision: u32) -> PowerResult
-    ensures result { λ r. ⌜ r ≡ powerOnResult (length (now (ops .entry))) state events revision ⌝ }
-    ensures list { λ r. ⌜ Wrote (now (ops .entry)) 0 (powerOnList (length (now (ops .entry))) state events revision) (r .end) (now (ops .exit)) ⌝ }
-    ensures number { λ r. ⌜ powerNumber (r .answer) ≡ checkNumber (onCheck (length (now (ops .entry))) state events revision) ⌝ }
+    ensures answer { λ r. ⌜ r .answer ≡ powerOnCall (length (now (ops .entry))) state events revision .answer ⌝ }
+    ensures state { λ r. ⌜ r .state ≡ powerOnCall (length (now (ops .entry))) state events revision .state ⌝ }
+    ensures list { λ r. ⌜ Wrote (now (ops .entry)) 0 (powerOnCall (length (now (ops .entry))) state events revision .ops) (r .end) (now (ops .exit)) ⌝ }
+    ensures wakes { λ r. ⌜ r .wakes ≡ powerOnCall (length (now (ops .entry))) state events revision .wakes ⌝ }
+    ensures number { λ r. ⌜ powerNumber (r .answer) ≡ checkNumber (firstRefusal (onConditions (length (now (ops .entry))) state events revision)) ⌝ }
 {
     let good = state_sound::sound(state, events);
     let awaited = state.awaited;
@@ -90,14 +93,16 @@ pub fn power_on(ops: &mut [u32], state: State, events: Events, revision: u32) ->
 
 // Leaves the bus; what is in hand is cut.
 pub fn power_off(ops: &mut [u32], state: State, events: Events) -> PowerResult
-    ensures result { λ r. ⌜ r ≡ powerOffResult (length (now (ops .entry))) state events ⌝ }
-    ensures list { λ r. ⌜ Wrote (now (ops .entry)) 0 (powerOffList (length (now (ops .entry))) state events) (r .end) (now (ops .exit)) ⌝ }
-    ensures number { λ r. ⌜ powerNumber (r .answer) ≡ checkNumber (offCheck (length (now (ops .entry))) state events) ⌝ }
+    ensures answer { λ r. ⌜ r .answer ≡ powerOffCall (length (now (ops .entry))) state events .answer ⌝ }
+    ensures state { λ r. ⌜ r .state ≡ powerOffCall (length (now (ops .entry))) state events .state ⌝ }
+    ensures list { λ r. ⌜ Wrote (now (ops .entry)) 0 (powerOffCall (length (now (ops .entry))) state events .ops) (r .end) (now (ops .exit)) ⌝ }
+    ensures wakes { λ r. ⌜ r .wakes ≡ powerOffCall (length (now (ops .entry))) state events .wakes ⌝ }
+    ensures number { λ r. ⌜ powerNumber (r .answer) ≡ checkNumber (firstRefusal (offConditions (length (now (ops .entry))) state events)) ⌝ }
 {
     let mut s = state;
     let good = state_sound::sound(s, events);
     let awaited = s.awaited;
-    let check = state_sound::admit(ops.len(), good, awaited, Check::Fits);
+    let check = state_call::admit(ops.len(), good, awaited, Check::Fits);
     if let Check::Refused(refusal) = check {
         let wakes = state_slots::waking::no_wakes();
         return PowerResult {

@@ -1,2 +1,2 @@
 pub mod Reset
-pub mod Keeps
+pub mod ResetLaws

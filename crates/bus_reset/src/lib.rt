@@ -1,17 +1,37 @@
-// The reset of the bus (reference: `bus_reset` of device.rs).
+// Resets of the control transfer and of the bus (reference: `control_reset` and `bus_reset` of device.rs).
 ghost use mathlib.Core.Path.{_≡_};
 ghost use Prim.Native.Nat.{_+_, _≤_};
 ghost use lib.ListN.{length};
 ghost use Rattle.ops.specs.Ops.{records};
 ghost use Rattle.ops.specs.Wrote.{Wrote};
 ghost use Rattle.regs_device.specs.Room.{busResetOps};
-ghost use Rattle.bus_reset.specs.Reset.{busResetState};
+ghost use Rattle.bus_reset.specs.Reset.{controlReset, busResetState};
 use state::State;
 
 // What a bus reset leaves.
 pub struct Reset {
     pub state: State,
     pub end: usize,
+}
+
+// The control transfer starts over: its stages are cut, and who waits for one is to be woken.
+pub fn control_reset(state: State) -> State
+    ensures { λ r. ⌜ r ≡ controlReset state ⌝ }
+{
+    let mut s = state;
+    let next = std::num::wrapping_add_u32(s.control_generation, 1);
+    let wake = state_slots::waking::add_slot(s.wake, 0);
+    let out = s.endpoints[0];
+    let out_after = state_slots::reset(out, false, true);
+    s.endpoints[0] = out_after;
+    let incoming = s.endpoints[1];
+    let in_after = state_slots::reset(incoming, false, true);
+    s.endpoints[1] = in_after;
+    s.control_generation = next;
+    s.has_address = false;
+    s.in_last = false;
+    s.wake = wake;
+    s
 }
 
 // Protocol layer, endpoints, address and control transfer start over.
@@ -35,7 +55,7 @@ pub fn bus_reset(ops: &mut [u32], at: usize, state: State) -> Reset
     s.low_power = false;
     s.has_setup = false;
     s.control_generation = generation;
-    s.has_address = false;
+    s.has_address = false; // one that waits for its status stage
     s.in_last = false;
     s.wake = 65535;
     Reset { state: s, end: end }

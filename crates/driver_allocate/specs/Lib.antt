@@ -1,4 +1,4 @@
 pub mod Rules
-pub mod Lowest
+pub mod RulesLaws
 pub mod Allocate
-pub mod Layout
+pub mod AllocateLaws

@@ -4,7 +4,7 @@ ghost use Prim.Native.Nat.{_≤_, _+_, _*_};
 ghost use mathlib.Core.Bool.{_&&_, cond};
 ghost use lib.Dec.{eqb};
 ghost use Rattle.state.specs.Numbers.{checkNumber};
-ghost use Rattle.driver_allocate.specs.Rules.{up4, sizeFits, burstFits, directionFits, available, lowest};
+ghost use Rattle.driver_allocate.specs.Rules.{present, up4, sizeFits, burstFits, directionFits, available, lowest};
 ghost use Rattle.driver_allocate.specs.Allocate.{capacityOf, newCheck, newNumber, emptyDriver, newResult, allocateCheck, Placeable, placed, allocateResult, allocateNumbers, numbersFor};
 use state::Allocation;
 use state::Buffer;
@@ -56,7 +56,7 @@ fn capacity_of(address: u32, length: u32) -> u32
 }
 
 fn packet_size_valid(ep_type: EndpointType, size: u16, interval: u8) -> bool
-    ensures { λ r. ⌜ r ≡ sizeFits «ep_type» size interval ⌝ }
+    ensures { λ r. ⌜ r ≡ sizeFits present «ep_type» size interval ⌝ }
 {
     match ep_type {
         EndpointType::Control => false,
@@ -67,7 +67,7 @@ fn packet_size_valid(ep_type: EndpointType, size: u16, interval: u8) -> bool
 }
 
 fn burst_valid(burst: u8, streams: u16, mult: u8) -> bool
-    ensures { λ r. ⌜ r ≡ burstFits burst streams mult ⌝ }
+    ensures { λ r. ⌜ r ≡ burstFits present burst streams mult ⌝ }
 {
     (burst <= 15) & (streams == 0) & (mult == 0)
 }
@@ -132,8 +132,8 @@ fn new_check(address: u32, length: u32) -> Check
 {
     let inside = state_sound::in_ram(address, length);
     let capacity = capacity_of(address, length);
-    let small = state::refusals::first(capacity < 512, Refusal::MemoryTooSmall, Check::Fits);
-    state::refusals::first(!inside, Refusal::MemoryOutsideRam, small)
+    let small = state::refusals::refuse_if(capacity < 512, Refusal::MemoryTooSmall, Check::Fits);
+    state::refusals::refuse_if(!inside, Refusal::MemoryOutsideRam, small)
 }
 
 fn allocate_check(driver: Driver, incoming: bool, request: EndpointRequest) -> Check
@@ -148,12 +148,12 @@ fn allocate_check(driver: Driver, incoming: bool, request: EndpointRequest) -> C
     let size = size_of(request.max_packet_size, request.max_burst);
     let end = end_of(driver.used, size);
     let capacity = driver.capacity as u64;
-    let room = state::refusals::first(capacity < end, Refusal::NoRoom, Check::Fits);
-    let free = state::refusals::first(endpoint == 0, Refusal::NoFreeEndpoint, room);
-    let way = state::refusals::first(!directed, Refusal::WrongDirection, free);
-    let fast = state::refusals::first(!burst, Refusal::UnfitBurst, way);
-    let kind = state::refusals::first(!sized, Refusal::UnfitPacketSize, fast);
-    state::refusals::first(!sound, Refusal::Unsound, kind)
+    let room = state::refusals::refuse_if(capacity < end, Refusal::NoRoom, Check::Fits);
+    let free = state::refusals::refuse_if(endpoint == 0, Refusal::NoFreeEndpoint, room);
+    let way = state::refusals::refuse_if(!directed, Refusal::WrongDirection, free);
+    let fast = state::refusals::refuse_if(!burst, Refusal::UnfitBurst, way);
+    let kind = state::refusals::refuse_if(!sized, Refusal::UnfitPacketSize, fast);
+    state::refusals::refuse_if(!sound, Refusal::Unsound, kind)
 }
 
 // A driver that has no endpoints.

@@ -1,2 +1,2 @@
 pub mod Start
-pub mod Keeps
+pub mod StartLaws

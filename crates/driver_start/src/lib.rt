@@ -1,9 +1,10 @@
 // Starting a driver (reference: `start` of device.rs).
 ghost use mathlib.Core.Path.{_≡_};
 ghost use Rattle.state.specs.Numbers.{checkNumber};
-ghost use Rattle.state.specs.Refusals.{firstDue};
-ghost use Rattle.state_sound.specs.Turn.{turnOf};
-ghost use Rattle.driver_start.specs.Start.{configuredSlot, slotStarted, sizeDues, startCheck, startResult, startNumber};
+ghost use Rattle.state.specs.Refusals.{firstRefusal};
+ghost use Rattle.state_call.specs.Turn.{turnOf};
+ghost use Rattle.driver_start.specs.Start.{configuredSlot, startOwn, startConditions, startCall, startNumber};
+ghost use Rattle.state_slots.specs.Slots.{offSlot};
 use state::Allocation;
 use state::Awaited;
 use state::Check;
@@ -12,6 +13,7 @@ use state::Events;
 use state::Refusal;
 use state::Slot;
 use state::State;
+use state::Wakes;
 
 pub enum StartAnswer {
     Refused(Refusal),
@@ -22,6 +24,7 @@ pub struct StartResult {
     pub state: State,
     pub answer: StartAnswer,
     pub events: Events,
+    pub wakes: Wakes,
 }
 
 // The slot with what is allocated for it.
@@ -45,17 +48,17 @@ fn configure(slot: Slot, allocation: Allocation) -> Slot
 
 // Slot i as a start leaves it.
 fn start_slot(i: usize, slot: Slot, allocation: Allocation) -> Slot
-    ensures { λ r. ⌜ r ≡ slotStarted i slot allocation ⌝ }
+    ensures { λ r. ⌜ r ≡ configuredSlot (offSlot i slot) allocation ⌝ }
 {
     let forgotten = state_slots::reset(slot, 2 <= i, false);
     configure(forgotten, allocation)
 }
 
 fn start_check(good: bool, awaited: Awaited, size: u16) -> Check
-    ensures { λ r. ⌜ r ≡ turnOf good (awaited .next) (firstDue (sizeDues size)) ⌝ }
+    ensures { λ r. ⌜ r ≡ firstRefusal (turnOf good (awaited .next) (startOwn size)) ⌝ }
 {
-    let sized = state::refusals::first(size != 512, Refusal::ControlPacketSize, Check::Fits);
-    state_sound::turn_of(good, awaited, sized)
+    let sized = state::refusals::refuse_if(size != 512, Refusal::ControlPacketSize, Check::Fits);
+    state_call::turn_of(good, awaited, sized)
 }
 
 // The state takes over the driver's layout and memory. Transfers in hand are cut; the device is off until it is powered.
@@ -65,19 +68,24 @@ pub fn start(
     driver: Driver,
     control_max_packet_size: u16,
 ) -> StartResult
-    ensures result { λ r. ⌜ r ≡ startResult state events driver «control_max_packet_size» ⌝ }
-    ensures number { λ r. ⌜ startNumber (r .answer) ≡ checkNumber (startCheck state events driver «control_max_packet_size») ⌝ }
+    ensures answer { λ r. ⌜ r .answer ≡ startCall state events driver «control_max_packet_size» .answer ⌝ }
+    ensures state { λ r. ⌜ r .state ≡ startCall state events driver «control_max_packet_size» .state ⌝ }
+    ensures events { λ r. ⌜ r .events ≡ startCall state events driver «control_max_packet_size» .events ⌝ }
+    ensures wakes { λ r. ⌜ r .wakes ≡ startCall state events driver «control_max_packet_size» .wakes ⌝ }
+    ensures number { λ r. ⌜ startNumber (r .answer) ≡ checkNumber (firstRefusal (startConditions state events driver «control_max_packet_size»)) ⌝ }
 {
     let mut s = state;
     let state_good = state_sound::sound(s, events);
     let driver_good = state_sound::driver_sound(driver);
     let awaited = s.awaited;
     let check = start_check(state_good & driver_good, awaited, control_max_packet_size);
+    let wakes = state_slots::waking::no_wakes();
     if let Check::Refused(refusal) = check {
         return StartResult {
             state: s,
             answer: StartAnswer::Refused(refusal),
             events: events,
+            wakes: wakes,
         };
     }
     let mut i: usize = 0;
@@ -97,5 +105,6 @@ pub fn start(
         events: Events {
             events: state::POWER,
         },
+        wakes: wakes,
     }
 }

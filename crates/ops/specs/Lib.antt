@@ -1,5 +1,9 @@
 pub mod Numbers
 pub mod Ops
+pub mod OpsLaws
 pub mod Stores
+pub mod StoresLaws
 pub mod Wrote
+pub mod WroteLaws
 pub mod Sequence
+pub mod SequenceLaws

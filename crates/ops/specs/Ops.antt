@@ -1,9 +1,7 @@
 -- Register operations, and the one way in which they are written out as numbers (document 01, "Volatile registers").
 -- Assumes nothing.
 use Prim.Native.Nat.{ℕ, _*_}
-use mathlib.Core.Path.{_≡_, refl, ap, _∙_, sym}
-use mathlib.Core.Bool.{Bool, true, false}
-use mathlib.Core.List.{List, [], _∷_, _++_, append-assoc}
+use mathlib.Core.List.{List, [], _∷_, _++_}
 use lib.ListN.{length}
 use Rattle.ops.specs.Numbers.{delay, cycles}
 
@@ -11,11 +9,6 @@ use Rattle.ops.specs.Numbers.{delay, cycles}
 infix 70 _≔_
 pub data Setting : Type 0 where
   _≔_ : ℕ → ℕ → Setting
-
--- a flag as a field's value
-abbrev pub bit : Bool → ℕ
-bit false = 0
-bit true = 1
 
 -- An operation names its register, and its index: the endpoint, the place in `link_lmp_tx_data`, or 0. A write or a
 -- modify sets at least one field, and its fields stand in the source's order; fields that a write doesn't name are 0.
@@ -54,6 +47,6 @@ flat (o ∷ os) = flatOne o ++ flat os
 abbrev pub records : ℕ → ℕ
 records n = n * length (rec 0 0 0 (0 ≔ 0))
 
-pub flat-append : (a b : List Op) → flat (a ++ b) ≡ flat a ++ flat b
-flat-append [] b = refl
-flat-append (o ∷ os) b = ap (λ (l : List ℕ). flatOne o ++ l) (flat-append os b) ∙ sym (append-assoc (flatOne o) (flat os) (flat b))
+-- refusal 10: a list has room for 128 records at least
+abbrev pub listNumbers : ℕ
+listNumbers = records 128

@@ -12,6 +12,9 @@ pub mod numbers;
 // How many numbers a record has.
 pub const WIDTH: usize = 5;
 
+// How many a call is lent at least: room for 128 records.
+pub const LIST_NUMBERS: usize = 128 * WIDTH;
+
 // What a record says: kind, register, index, field, value.
 pub type Row = [u32; 5];
 

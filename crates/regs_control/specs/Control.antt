@@ -5,7 +5,8 @@ use Prim.Native.Nat.{ℕ}
 use mathlib.Core.Bool.{Bool}
 use mathlib.Core.List.{List, [], _∷_}
 use Rattle.ops.specs.Numbers as n
-use Rattle.ops.specs.Ops.{Op, write, modify, _≔_, bit}
+use Rattle.ops.specs.Ops.{Op, write, modify, _≔_}
+use Rattle.base.specs.Bits.{bit}
 
 -- takes the next packet
 abbrev pub ep0RxReadyOps : List Op

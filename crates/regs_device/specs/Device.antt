@@ -1,13 +1,11 @@
 -- What is done to the device as a whole (reference: `shutdown` and `protocol_reset` of regs.rs).
 -- Assumes nothing.
-use Prim.Native.Nat.{ℕ, _*_}
-use lib.ListN.{length}
-use mathlib.Core.Path.{_≡_, refl}
+use Prim.Native.Nat.{ℕ}
 use mathlib.Core.Bool.{true, false}
 use mathlib.Core.List.{List, [], _∷_, _++_}
 use Rattle.ops.specs.Numbers as n
-use Rattle.ops.specs.Sequence.{upTo, upTo-length}
-use Rattle.ops.specs.Ops.{Op, flat, records, write, modify, wait, _≔_}
+use Rattle.ops.specs.Sequence.{upTo}
+use Rattle.ops.specs.Ops.{Op, write, modify, wait, _≔_}
 use Rattle.regs_endpoint.specs.Endpoint.{clearOps}
 use Rattle.regs_control.specs.Control.{ep0TxClearOps, ep0RxReadyOps, addressOps}
 
@@ -45,9 +43,6 @@ protocolOps =
 abbrev pub clearBoth : ℕ → List Op
 clearBoth e = clearOps e true ++ clearOps e false
 
-pub clear-both-length : (n : ℕ) → length (flat (upTo clearBoth n)) ≡ n * records 8
-clear-both-length n = upTo-length clearBoth (records 8) (λ e. refl) n
-
 -- endpoint 0 sends and receives in the 512 bytes at `ep0`
 abbrev pub ep0MemoryOps : ℕ → List Op
 ep0MemoryOps ep0 =
@@ -60,8 +55,4 @@ ep0MemoryOps ep0 =
 -- the protocol layer, the endpoints 1 to 7 and the address; endpoint 0 is ready for a SETUP
 abbrev pub protocolResetOps : ℕ → List Op
 protocolResetOps ep0 =
-    protocolOps ++ upTo clearBoth 7 ++ ep0MemoryOps ep0 ++ ep0TxClearOps ++ ep0RxReadyOps ++ addressOps 0
-
-pub protocol-reset-length : (ep0 : ℕ) → length (flat (protocolResetOps ep0)) ≡ records 81
-unfolding upTo
-protocol-reset-length ep0 = refl
+    protocolOps ++ (upTo clearBoth 7 ++ (ep0MemoryOps ep0 ++ (ep0TxClearOps ++ (ep0RxReadyOps ++ addressOps 0))))

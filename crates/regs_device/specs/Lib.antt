@@ -1,2 +1,4 @@
 pub mod Device
+pub mod DeviceLaws
 pub mod Room
+pub mod RoomLaws

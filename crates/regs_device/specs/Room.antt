@@ -2,24 +2,12 @@
 -- beside it in one list. A list has room for 128 (document 01, "Volatile registers").
 -- Assumes nothing.
 use Prim.Native.Nat.{ℕ}
-use mathlib.Core.Path.{_≡_, refl}
 use mathlib.Core.Bool.{Bool, true, false}
 use mathlib.Core.List.{List, _++_}
-use lib.ListN.{length}
-use Rattle.ops.specs.Sequence.{upTo}
 use Rattle.ops.specs.Numbers as n
-use Rattle.ops.specs.Ops.{Op, flat, records}
+use Rattle.ops.specs.Ops.{Op}
 use Rattle.regs_device.specs.Device.{protocolResetOps}
-use Rattle.regs_link.specs.Link.{
-  initOps,
-  linkPowerAllowOps,
-  linkAckOps,
-  txPortCapOps,
-  goDisabledOps,
-  goRxDetOps,
-  hotResetDoneOps,
-  delayOps,
-}
+use Rattle.regs_link.specs.Link.{initOps, linkPowerAllowOps, linkAckOps, txPortCapOps, goDisabledOps, goRxDetOps, hotResetDoneOps, delayOps}
 
 -- a bus reset: protocol_reset, and no link power management
 abbrev pub busResetOps : ℕ → List Op
@@ -32,22 +20,13 @@ powerOnOps revision ep0 = initOps revision ++ busResetOps ep0
 abbrev pub hotResetOps : Bool → ℕ → List Op
 hotResetOps allow ep0 =
     linkPowerAllowOps allow
-    ++ linkAckOps n.link-if-state-chg
-    ++ busResetOps ep0
-    ++ hotResetDoneOps
-    ++ linkAckOps n.link-if-tx-lmp
-    ++ txPortCapOps
-    ++ linkAckOps n.link-if-rx-lmp-tout
-    ++ goDisabledOps true
-    ++ goRxDetOps
+    ++ (linkAckOps n.link-if-state-chg
+    ++ (busResetOps ep0
+    ++ (hotResetDoneOps
+    ++ (linkAckOps n.link-if-tx-lmp
+    ++ (txPortCapOps
+    ++ (linkAckOps n.link-if-rx-lmp-tout
+    ++ (goDisabledOps true ++ goRxDetOps)))))))
 
 abbrev pub warmResetOps : ℕ → List Op
-warmResetOps ep0 = busResetOps ep0 ++ goDisabledOps true ++ delayOps 16 ++ goDisabledOps false
-
--- whatever the revision, the capability and the memory of endpoint 0 are
-pub longest : (revision ep0 : ℕ) (allow : Bool)
-    → (length (flat (powerOnOps revision ep0)) ≡ records 127)
-    × (length (flat (hotResetOps allow ep0)) ≡ records 94)
-    × (length (flat (warmResetOps ep0)) ≡ records 86)
-unfolding upTo
-longest revision ep0 allow = (refl, refl, refl)
+warmResetOps ep0 = busResetOps ep0 ++ (goDisabledOps true ++ (delayOps 16 ++ goDisabledOps false))

@@ -1,12 +1,11 @@
 -- What is done to the registers of a data endpoint, 1 to 7 (reference: regs.rs, and `queue` of device.rs).
 -- Assumes nothing.
-use Prim.Native.Nat.{ℕ, _≤_}
-use native.Mathlib.Omega.{arith}
-use lib.ListN.{length}
+use Prim.Native.Nat.{ℕ}
 use mathlib.Core.Bool.{Bool, true, false, cond}
 use mathlib.Core.List.{List, [], _∷_, _++_}
 use Rattle.ops.specs.Numbers as n
-use Rattle.ops.specs.Ops.{Op, flat, records, write, modify, modifyIfDiffers, _≔_, bit}
+use Rattle.ops.specs.Ops.{Op, write, modify, modifyIfDiffers, _≔_}
+use Rattle.base.specs.Bits.{bit}
 use Rattle.regs_endpoint.specs.declared.Bank.{Bank}
 
 -- IN works on the registers `tx`, OUT on `rx`
@@ -58,10 +57,6 @@ abortOps e incoming =
 -- where there is a chain
 abbrev pub abortBusyOps : ℕ → Bool → Bool → List Op
 abortBusyOps e incoming busy = cond busy (abortOps e incoming) []
-
-pub abort-busy-room : (e : ℕ) (incoming busy : Bool) → length (flat (abortBusyOps e incoming busy)) ≤ records 3
-abort-busy-room e incoming true = omega arith
-abort-busy-room e incoming false = omega arith
 
 -- the window of an OUT endpoint, written only where it changes
 abbrev pub windowOps : ℕ → ℕ → List Op

@@ -1,1 +1,2 @@
 pub mod Endpoint
+pub mod EndpointLaws

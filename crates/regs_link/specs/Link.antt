@@ -5,7 +5,8 @@ use lib.Dec.{leb}
 use mathlib.Core.Bool.{Bool}
 use mathlib.Core.List.{List, [], _∷_, _++_}
 use Rattle.ops.specs.Numbers as n
-use Rattle.ops.specs.Ops.{Op, write, modify, wait, clearBits, _≔_, bit}
+use Rattle.ops.specs.Ops.{Op, write, modify, wait, clearBits, _≔_}
+use Rattle.base.specs.Bits.{bit}
 
 -- a value at an address of the PHY, which is reached through two registers
 abbrev pub phyWriteOps : ℕ → ℕ → List Op
@@ -22,11 +23,11 @@ phyUnnamedOps = write n.unnamed-5003c018 0 (n.all ≔ 0xB005_4000) [] ∷ []
 abbrev pub phyTuningOps : List Op
 phyTuningOps =
     phyWriteOps 0x03 0x7c12
-    ++ phyWriteOps 0x0d 0x79aa
-    ++ phyWriteOps 0x15 0x4430
-    ++ phyWriteOps 0x13 0x0010
-    ++ phyWriteOps 0x11 0x0501
-    ++ phyUnnamedOps
+    ++ (phyWriteOps 0x0d 0x79aa
+    ++ (phyWriteOps 0x15 0x4430
+    ++ (phyWriteOps 0x13 0x0010
+    ++ (phyWriteOps 0x11 0x0501
+    ++ phyUnnamedOps))))
 
 -- the link layer comes up as a device's; silicon from revision 3 on reports Set Link Function by a flag of its own
 abbrev pub linkUpOps : ℕ → List Op

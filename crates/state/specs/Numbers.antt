@@ -44,7 +44,7 @@ checkNumber (check.Refused r) = refusalNumber r
 abbrev pub readingInRange : Reading → Bool
 readingInRange (reading.LinkFlags f) = true
 readingInRange (reading.LinkStatus s) = true
-readingInRange (reading.ForcePm b) = true
+readingInRange (reading.PortCapability b) = true
 readingInRange (reading.MessageWord w) = true
 readingInRange (reading.TransferStatus t) = leb (t .«ep_id») 15
 readingInRange (reading.SetupBytes b) = true

@@ -123,7 +123,7 @@ pub struct TransferStatus {
 pub enum Reading {
     LinkFlags(LinkFlags),
     LinkStatus(LinkStatus),
-    ForcePm(bool),
+    PortCapability(bool),
     MessageWord(u32),
     TransferStatus(TransferStatus),
     SetupBytes(Setup),

@@ -13,7 +13,7 @@ pub fn reading_in_range(reading: Reading) -> bool
     match reading {
         Reading::LinkFlags(_) => true,
         Reading::LinkStatus(_) => true,
-        Reading::ForcePm(_) => true,
+        Reading::PortCapability(_) => true,
         Reading::MessageWord(_) => true,
         Reading::TransferStatus(status) => status.ep_id <= 15,
         Reading::SetupBytes(_) => true,

@@ -1,13 +1,13 @@
 // Refusals: their numbers, and the first that is due.
 ghost use mathlib.Core.Path.{_≡_};
-ghost use Rattle.state.specs.Refusals.{firstOf};
+ghost use Rattle.state.specs.Refusals.{refuseIf};
 ghost use Rattle.state.specs.Numbers.{refusalNumber};
 use super::Check;
 use super::Refusal;
 
 // The refusal if it is due, else what further tests came to.
-pub fn first(due: bool, refusal: Refusal, further: Check) -> Check
-    ensures { λ r. ⌜ r ≡ firstOf due refusal further ⌝ }
+pub fn refuse_if(due: bool, refusal: Refusal, further: Check) -> Check
+    ensures { λ r. ⌜ r ≡ refuseIf due refusal further ⌝ }
 {
     if due {
         return Check::Refused(refusal);

@@ -1,19 +1,15 @@
--- What raising an event and asking for one do to the byte of pending events, and what they answer.
+-- What raising an event and asking for one do to the byte of pending events (reference: `raise` and `poll` of device.rs).
 -- Assumes nothing.
 use Prim.Native.Nat.{ℕ, _+_, _-_}
-use mathlib.Core.Bool.{Bool, true, false, _&&_, _||_, cond}
-use mathlib.Core.Path.{_≡_, refl}
+use mathlib.Core.Bool.{Bool, _&&_, _||_, cond}
 use mathlib.Core.List.{List, [], _∷_}
 use lib.Dec.{eqb}
-use Rattle.state.specs.Numbers.{refusalNumber}
-use Rattle.state.specs.declared.Refusal.the-variants as refusal
+use Rattle.state.specs.declared.Events.{Events}
 use Rattle.state_events.specs.declared.Event.{Event}
 use Rattle.state_events.specs.declared.Event.the-variants as event
-use Rattle.state_events.specs.declared.RaiseAnswer.{RaiseAnswer}
-use Rattle.state_events.specs.declared.RaiseAnswer.the-variants as raising
-use Rattle.state_events.specs.declared.PollAnswer.{PollAnswer}
-use Rattle.state_events.specs.declared.PollAnswer.the-variants as polling
-use Rattle.state_events.specs.Pending.{reset, suspend, resume, power, pendingb, eventsSoundb}
+use Rattle.state_events.specs.declared.Pending.{Pending}
+use Rattle.state_events.specs.declared.Pending.the-variants as pending
+use Rattle.state_events.specs.Bytes.{reset, suspend, resume, power, pendingb}
 
 -- the bit of each event
 abbrev pub eventNumber : Event → ℕ
@@ -45,61 +41,36 @@ raised e v =
     (cond (eqb v resume && pendingb e suspend) (withoutEvent e suspend)
     (withEvent e v)))
 
--- refusal 26, then refusal 11
-abbrev pub raiseAnswer : ℕ → ℕ → RaiseAnswer
-raiseAnswer e v =
-    cond (eventsSoundb e)
-    (cond (eventb v) raising.Raised (raising.Refused refusal.OutOfRange))
-    (raising.Refused refusal.Unsound)
+-- the byte after a number was raised; one that is no event leaves it alone
+abbrev pub raiseByte : ℕ → ℕ → ℕ
+raiseByte e v = cond (eventb v) (raised e v) e
 
--- the number of an answer: 0 for an event raised, else the refusal's
-abbrev pub raiseNumber : RaiseAnswer → ℕ
-raiseNumber raising.Raised = 0
-raiseNumber (raising.Refused r) = refusalNumber r
-
--- a refused call leaves the byte alone
-abbrev pub raiseEvents : ℕ → ℕ → ℕ
-raiseEvents e v = cond (eventsSoundb e && eventb v) (raised e v) e
+-- an event raised from inside
+abbrev pub raiseEvent : Events → Event → Events
+raiseEvent v e = record { events = raised (v .events) (eventNumber e) }
 
 -- the events as they take precedence, the highest first
 abbrev pub precedence : List Event
 precedence = event.PowerDetected ∷ event.Reset ∷ event.Suspend ∷ event.Resume ∷ []
 
 -- the first of a list that is pending
-abbrev pub firstPending : ℕ → List Event → PollAnswer
-firstPending e [] = polling.Nothing
-firstPending e (v ∷ vs) = cond (pendingb e (eventNumber v)) (polling.Event v) (firstPending e vs)
+abbrev pub firstPending : ℕ → List Event → Pending
+firstPending e [] = pending.Nothing
+firstPending e (v ∷ vs) = cond (pendingb e (eventNumber v)) (pending.Event v) (firstPending e vs)
 
--- refusal 26, or the pending event of highest precedence
-abbrev pub pollAnswer : ℕ → PollAnswer
-pollAnswer e = cond (eventsSoundb e) (firstPending e precedence) (polling.Refused refusal.Unsound)
+-- the pending event of highest precedence
+abbrev pub nextPending : ℕ → Pending
+nextPending e = firstPending e precedence
 
--- the numbers of an answer: the refusal's, or 0 and the event's, which is 0 where none is pending
-abbrev pub pollNumbers : PollAnswer → List ℕ
-pollNumbers (polling.Refused r) = refusalNumber r ∷ []
-pollNumbers polling.Nothing = 0 ∷ 0 ∷ []
-pollNumbers (polling.Event v) = 0 ∷ eventNumber v ∷ []
+-- its number, 0 where none is pending
+abbrev pub pendingNumber : Pending → ℕ
+pendingNumber pending.Nothing = 0
+pendingNumber (pending.Event v) = eventNumber v
 
-abbrev pub firstNumber : ℕ → List Event → ℕ
-firstNumber e [] = 0
-firstNumber e (v ∷ vs) = cond (pendingb e (eventNumber v)) (eventNumber v) (firstNumber e vs)
+-- the byte once it was given: it is cleared
+abbrev pub withoutPending : ℕ → Pending → ℕ
+withoutPending e pending.Nothing = e
+withoutPending e (pending.Event v) = withoutEvent e (eventNumber v)
 
-pub first-numbers : (e : ℕ) (vs : List Event) → pollNumbers (firstPending e vs) ≡ (0 ∷ firstNumber e vs ∷ [])
-first-numbers e [] = refl
-first-numbers e (v ∷ vs) = go (pendingb e (eventNumber v)) (first-numbers e vs)
-  where
-    go :
-        (b : Bool) →
-        pollNumbers (firstPending e vs) ≡ (0 ∷ firstNumber e vs ∷ []) →
-        pollNumbers (cond b (polling.Event v) (firstPending e vs)) ≡ (0 ∷ cond b (eventNumber v) (firstNumber e vs) ∷ [])
-    go true further = refl
-    go false further = further
-
--- the byte once an answer was given: an event that was given is cleared
-abbrev pub answered : ℕ → PollAnswer → ℕ
-answered e (polling.Refused r) = e
-answered e polling.Nothing = e
-answered e (polling.Event v) = withoutEvent e (eventNumber v)
-
-abbrev pub pollEvents : ℕ → ℕ
-pollEvents e = answered e (pollAnswer e)
+abbrev pub pollByte : ℕ → ℕ
+pollByte e = withoutPending e (nextPending e)

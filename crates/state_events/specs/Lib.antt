@@ -1,4 +1,4 @@
-pub mod Pending
+pub mod Bytes
 pub mod Events
-pub mod Bits
-pub mod Laws
+pub mod BytesLaws
+pub mod EventsLaws

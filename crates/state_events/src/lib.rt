@@ -1,15 +1,13 @@
-// The pending events (reference: `raise` and `poll` of device.rs).
+// The byte of pending events (reference: `raise` and `poll` of device.rs).
 ghost use Prim.Native.Nat.{_<_};
 ghost use mathlib.Core.Path.{_≡_};
-ghost use mathlib.Core.Bool.{true, cond};
-ghost use mathlib.Core.List.{[], _∷_};
-ghost use Rattle.state_events.specs.Pending.{pendingb, eventsSoundb};
-ghost use Rattle.state_events.specs.Events.{eventNumber, eventb, withEvent, withoutEvent, onlyReset, raised, raiseAnswer, raiseNumber, raiseEvents, precedence, firstPending, firstNumber, pollAnswer, pollNumbers, answered, pollEvents};
+ghost use mathlib.Core.Bool.{true};
+ghost use Rattle.state_events.specs.Bytes.{pendingb, eventsSoundb};
+ghost use Rattle.state_events.specs.Events.{eventNumber, eventb, withEvent, withoutEvent, onlyReset, raised, raiseByte, raiseEvent, nextPending, withoutPending};
 use state::Events;
 use state::POWER;
 use state::RESET;
 use state::RESUME;
-use state::Refusal;
 use state::SUSPEND;
 
 pub enum Event {
@@ -19,25 +17,10 @@ pub enum Event {
     Resume,
 }
 
-pub enum RaiseAnswer {
-    Refused(Refusal),
-    Raised,
-}
-
-pub struct RaiseResult {
-    pub answer: RaiseAnswer,
-    pub events: Events,
-}
-
-pub enum PollAnswer {
-    Refused(Refusal),
+// The event that is to be handed out next.
+pub enum Pending {
     Nothing,
     Event(Event),
-}
-
-pub struct PollResult {
-    pub answer: PollAnswer,
-    pub events: Events,
 }
 
 fn is_pending(events: u8, flag: u8) -> bool
@@ -66,7 +49,7 @@ pub fn event_number(event: Event) -> u8
     }
 }
 
-fn is_event(event: u8) -> bool
+pub fn is_event(event: u8) -> bool
     ensures { λ r. ⌜ r ≡ eventb event ⌝ }
 {
     (event == RESET) | (event == SUSPEND) | (event == RESUME) | (event == POWER)
@@ -124,83 +107,60 @@ fn after_raise(events: u8, event: u8) -> u8
     with_event(events, event)
 }
 
-pub fn raise(events: Events, event: u8) -> RaiseResult
-    ensures answer { λ r. ⌜ r .answer ≡ raiseAnswer (events .events) event ⌝ }
-    ensures number { λ r. ⌜ raiseNumber (r .answer) ≡ cond (eventsSoundb (events .events)) (cond (eventb event) 0 11) 26 ⌝ }
-    ensures byte { λ r. ⌜ r .events .events ≡ raiseEvents (events .events) event ⌝ }
+// The events after a number was raised; one that is no event leaves them alone.
+pub fn raise_byte(events: Events, event: u8) -> Events
+    ensures { λ r. ⌜ r .events ≡ raiseByte (events .events) event ⌝ }
 {
-    let sound = events_sound(events);
-    if !sound {
-        return RaiseResult {
-            answer: RaiseAnswer::Refused(Refusal::Unsound),
-            events: events,
-        };
-    }
     let known = is_event(event);
-    if !known {
-        return RaiseResult {
-            answer: RaiseAnswer::Refused(Refusal::OutOfRange),
-            events: events,
-        };
+    if known {
+        let after = after_raise(events.events, event);
+        return Events { events: after };
     }
-    let after = after_raise(events.events, event);
-    RaiseResult {
-        answer: RaiseAnswer::Raised,
-        events: Events { events: after },
-    }
+    events
 }
 
-fn first_pending(events: u8) -> PollAnswer
-    ensures { λ r. ⌜ r ≡ firstPending events precedence ⌝ }
+// An event raised from inside.
+pub fn raise_event(events: Events, event: Event) -> Events
+    ensures { λ r. ⌜ r ≡ raiseEvent events event ⌝ }
 {
-    let power = is_pending(events, POWER);
+    let flag = event_number(event);
+    let after = after_raise(events.events, flag);
+    Events { events: after }
+}
+
+// The pending event of highest precedence.
+pub fn next_pending(events: Events) -> Pending
+    ensures { λ r. ⌜ r ≡ nextPending (events .events) ⌝ }
+{
+    let power = is_pending(events.events, POWER);
     if power {
-        return PollAnswer::Event(Event::PowerDetected);
+        return Pending::Event(Event::PowerDetected);
     }
-    let reset = is_pending(events, RESET);
+    let reset = is_pending(events.events, RESET);
     if reset {
-        return PollAnswer::Event(Event::Reset);
+        return Pending::Event(Event::Reset);
     }
-    let suspend = is_pending(events, SUSPEND);
+    let suspend = is_pending(events.events, SUSPEND);
     if suspend {
-        return PollAnswer::Event(Event::Suspend);
+        return Pending::Event(Event::Suspend);
     }
-    let resume = is_pending(events, RESUME);
+    let resume = is_pending(events.events, RESUME);
     if resume {
-        return PollAnswer::Event(Event::Resume);
+        return Pending::Event(Event::Resume);
     }
-    PollAnswer::Nothing
+    Pending::Nothing
 }
 
-fn after_answer(events: u8, answer: PollAnswer) -> u8
-    ensures { λ r. ⌜ r ≡ answered events answer ⌝ }
+// The events without the one that was handed out.
+pub fn without(events: Events, pending: Pending) -> Events
+    ensures { λ r. ⌜ r .events ≡ withoutPending (events .events) pending ⌝ }
 {
-    match answer {
-        PollAnswer::Refused(_) => events,
-        PollAnswer::Nothing => events,
-        PollAnswer::Event(event) => {
+    match pending {
+        Pending::Nothing => events,
+        Pending::Event(event) => {
             let flag = event_number(event);
-            without_event(events, flag)
+            let left = without_event(events.events, flag);
+            Events { events: left }
         }
-    }
-}
-
-pub fn poll(events: Events) -> PollResult
-    ensures answer { λ r. ⌜ r .answer ≡ pollAnswer (events .events) ⌝ }
-    ensures numbers { λ r. ⌜ pollNumbers (r .answer) ≡ cond (eventsSoundb (events .events)) (0 ∷ firstNumber (events .events) precedence ∷ []) (26 ∷ []) ⌝ }
-    ensures byte { λ r. ⌜ r .events .events ≡ pollEvents (events .events) ⌝ }
-{
-    let sound = events_sound(events);
-    if !sound {
-        return PollResult {
-            answer: PollAnswer::Refused(Refusal::Unsound),
-            events: events,
-        };
-    }
-    let answer = first_pending(events.events);
-    let left = after_answer(events.events, answer);
-    PollResult {
-        answer: answer,
-        events: Events { events: left },
     }
 }

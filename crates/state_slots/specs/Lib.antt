@@ -1,5 +1,9 @@
 pub mod Slots
-pub mod Stored
+pub mod SlotsLaws
+pub mod StoredLaws
 pub mod Tally
-pub mod Each
+pub mod TallyLaws
 pub mod Waking
+pub mod WakingLaws
+pub mod Completing
+pub mod CompletingLaws

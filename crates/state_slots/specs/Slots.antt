@@ -1,21 +1,18 @@
 -- Slots, and the state they stand in.
 -- Assumes nothing.
-use Prim.Native.Nat.{ℕ, _+_, _*_, _%_, _^_, _≤_}
-use native.Mathlib.Omega.{arith}
+use Prim.Native.Nat.{ℕ, _+_, _*_, _%_, _^_}
 use mathlib.Core.Bool.{Bool, true, false, _&&_, not}
 use mathlib.Core.List.{List}
-use mathlib.Core.Path.{_≡_, ap, _∙_}
-use borrow.Author.Tests.{leb-true}
 use lib.Dec.{leb}
-use lib.ListN.{length, set, List·getD-eq-default}
-use Rattle.ops.specs.Ops.{bit}
+use Rattle.base.specs.Bits.{bit}
 use Rattle.state.specs.declared.Phase.{Phase}
 use Rattle.state.specs.declared.Phase.the-variants.{Idle, Busy, Done}
+use Rattle.state.specs.declared.Transfer.{Transfer}
 use Rattle.state.specs.declared.Tally.{Tally}
 use Rattle.state.specs.declared.Slot.{Slot}
 use Rattle.state.specs.declared.State.{State}
-use Rattle.state.specs.Fresh.{freshSlot, slotAt}
-use Rattle.state_slots.specs.Each.{change, change-none, change-next, change-not-yet, and-right}
+use Rattle.state.specs.Fresh.{slotAt}
+use Rattle.base.specs.Each.{change}
 
 abbrev pub idleb : Phase → Bool
 idleb Idle = true
@@ -35,9 +32,38 @@ slotNumber index incoming = index * 2 + bit incoming
 abbrev pub dataEndpoint : ℕ → Bool
 dataEndpoint e = leb 1 e && leb e 7
 
+-- the slot of an endpoint's direction
+abbrev pub slotOf : State → ℕ → Bool → Slot
+slotOf s e incoming = slotAt s (slotNumber e incoming)
+
 -- one of the sixteen places
 abbrev pub slotPlace : ℕ → Bool → ℕ
 slotPlace e incoming = slotNumber e incoming % 16
+
+-- a slot takes transfers while the device is powered and it is enabled and not stalled
+abbrev pub ready : Bool → Slot → Bool
+ready powered x = (powered && x .enabled) && not (x .stalled)
+
+-- M
+abbrev pub slotSize : Slot → ℕ
+slotSize x = x .config .«max_packet_size»
+
+-- a slot with another phase, transfer and tally
+abbrev pub changedSlot : Slot → Phase → Transfer → Tally → Slot
+changedSlot x phase t y =
+    record {
+      configured = x .configured;
+      config = x .config;
+      enabled = x .enabled;
+      stalled = x .stalled;
+      phase = phase;
+      transfer = t;
+      tally = y;
+    }
+
+-- with another phase and transfer
+abbrev pub movedSlot : Slot → Phase → Transfer → Slot
+movedSlot x phase t = changedSlot x phase t (x .tally)
 
 -- a cut transfer adds itself and its progress, modulo 2^32
 abbrev pub tallyCut : Tally → Bool → ℕ → Tally
@@ -60,60 +86,9 @@ forgotten x tallied enabled stalled =
 abbrev pub resetSlot : Slot → Bool → Bool → Slot
 resetSlot x tallied enabled = forgotten x tallied enabled false
 
-pub bit-small : (b : Bool) → bit b ≤ 1
-bit-small true = omega arith
-bit-small false = omega arith
+-- a slot that is off: what it had in hand is cut. Endpoint 0 has no tally.
+abbrev pub offSlot : ℕ → Slot → Slot
+offSlot i x = resetSlot x (leb 2 i) false
 
--- the slots of endpoints 0 to 7 have their own places
-pub own-place : (e : ℕ) (incoming : Bool) → e ≤ 7 → slotPlace e incoming ≡ slotNumber e incoming
-own-place e incoming h = omega (arith, h, bit-small incoming)
-
-pub data-place : (e : ℕ) (incoming : Bool) → dataEndpoint e ≡ true → slotPlace e incoming ≡ slotNumber e incoming
-data-place e incoming h = own-place e incoming (leb-true e 7 (and-right (leb 1 e) (leb e 7) h))
-
--- the state with other slots, EP0 memory, power, waiting SETUP and slots to wake
-abbrev pub stateWith : State → List Slot → ℕ → Bool → Bool → ℕ → State
-stateWith s slots memory powered waits wake =
-    record {
-      endpoints = slots;
-      «ep0_address» = memory;
-      powered = powered;
-      suspended = s .suspended;
-      wake = wake;
-      «has_setup» = waits;
-      setup = s .setup;
-      «control_generation» = s .«control_generation»;
-      «in_last» = s .«in_last»;
-      «tx_seq» = s .«tx_seq»;
-      «has_address» = s .«has_address»;
-      address = s .address;
-      revision = s .revision;
-      «reset_seen» = s .«reset_seen»;
-      «low_power» = s .«low_power»;
-      awaited = s .awaited;
-    }
-
--- with other slots alone
-abbrev pub withSlots : State → List Slot → State
-withSlots s slots = stateWith s slots (s .«ep0_address») (s .powered) (s .«has_setup») (s .wake)
-
--- with one other slot
-abbrev pub withSlot : State → ℕ → Slot → State
-withSlot s i x = withSlots s (set (s .endpoints) i x)
-
--- past the sixteen slots stands a fresh one
-pub no-slot : (s : State) (i : ℕ) → length (s .endpoints) ≡ 16 → 16 ≤ i → slotAt s i ≡ freshSlot
-no-slot s i h b = List·getD-eq-default (s .endpoints) freshSlot (omega (arith, h, b))
-
--- a loop over the slots: none is changed yet, and one more is
-pub change-none-of : (f : ℕ → Slot → Slot) (s : State) → withSlots s (change f 0 (s .endpoints)) ≡ s
-change-none-of f s = rw (change-none f (s .endpoints))
-
-pub change-next-of : (f : ℕ → Slot → Slot) (s₀ s : State) (i : ℕ) (y : Slot) → s ≡ withSlots s₀ (change f i (s₀ .endpoints)) → y ≡ f i (slotAt s₀ i)
-    → withSlot s i y ≡ withSlots s₀ (change f (i + 1) (s₀ .endpoints))
-change-next-of f s₀ s i y h e = rw (h, e, change-next f i (s₀ .endpoints) freshSlot)
-
--- the same where the loop reads the state that it changes
-pub change-next-in : (f : ℕ → Slot → Slot) (s₀ s : State) (i : ℕ) (y : Slot) → s ≡ withSlots s₀ (change f i (s₀ .endpoints)) → y ≡ f i (slotAt s i)
-    → withSlot s i y ≡ withSlots s₀ (change f (i + 1) (s₀ .endpoints))
-change-next-in f s₀ s i y h e = change-next-of f s₀ s i y h (e ∙ ap (f i) (rw h (change-not-yet f i (s₀ .endpoints) freshSlot)))
+abbrev pub slotsOff : List Slot → List Slot
+slotsOff l = change offSlot 16 l

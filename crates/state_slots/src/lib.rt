@@ -1,12 +1,14 @@
 // One slot: its number, its phase, and how it forgets its transfer.
 ghost use mathlib.Core.Path.{_≡_};
-ghost use Rattle.state_slots.specs.Slots.{idleb, busyb, slotNumber, slotPlace, dataEndpoint, tallyCut, forgotten, resetSlot, withSlot};
+ghost use Rattle.state_slots.specs.Slots.{idleb, busyb, slotNumber, slotPlace, dataEndpoint, tallyCut, forgotten, resetSlot};
+ghost use Rattle.state.specs.Setters.{withSlot};
 ghost use Rattle.state.specs.Fresh.{slotAt};
 use state::Phase;
 use state::Slot;
 use state::State;
 use state::Tally;
 
+pub mod completing;
 pub mod waking;
 
 pub fn is_idle(phase: Phase) -> bool

@@ -13,8 +13,8 @@ use Rattle.state.specs.declared.Driver.{Driver}
 use Rattle.state_slots.specs.Slots.{idleb, busyb, slotNumber}
 use Rattle.state.specs.Fresh.{slotAt, allocationAt}
 use Rattle.state.specs.Awaiting.{awaitingb, chainReadingb}
-use Rattle.state_events.specs.Pending.{eventsSoundb}
-use Rattle.state_slots.specs.Each.{every}
+use Rattle.state_events.specs.Bytes.{eventsSoundb}
+use Rattle.base.specs.Each.{every}
 
 -- RAM is 0x200A0000 up to, not including, 0x20180000
 abbrev pub inRam : ℕ → ℕ → Bool

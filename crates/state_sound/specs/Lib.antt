@@ -1,5 +1,5 @@
 pub mod Clauses
 pub mod Sound
-pub mod Facts
-pub mod Faults
-pub mod Turn
+pub mod SoundLaws
+pub mod FactLaws
+pub mod FaultLaws

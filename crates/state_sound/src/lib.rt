@@ -3,13 +3,10 @@ ghost use mathlib.Core.Path.{_≡_};
 ghost use mathlib.Core.Bool.{true};
 ghost use Rattle.state_sound.specs.Clauses.{inRam, aligned, multiple, wholePackets};
 ghost use Rattle.state_sound.specs.Sound.{soundb, driverSoundb, configb, outb, busyClausesb, slotb, awaitedb, ownb, memoryb, allocationsb};
-ghost use Rattle.state_sound.specs.Turn.{turnOf, admittedOf};
 use state::Awaited;
-use state::Check;
 use state::Driver;
 use state::EndpointConfig;
 use state::Events;
-use state::Refusal;
 use state::Slot;
 use state::State;
 
@@ -214,22 +211,4 @@ pub fn driver_sound(driver: Driver) -> bool
     let endpoints = allocations_sound(driver);
     let memory = memory_sound(driver.memory, driver.capacity, driver.used);
     endpoints & memory
-}
-
-// 26 and 24, which every call asks, before its further tests: of what `sound` says, and of the reading awaited.
-pub fn turn_of(good: bool, awaited: Awaited, further: Check) -> Check
-    ensures { λ r. ⌜ r ≡ turnOf good (awaited .next) further ⌝ }
-{
-    let next = awaited.next;
-    let awaiting = state::readings::is_awaiting(next);
-    let turn = state::refusals::first(awaiting, Refusal::OutOfTurn, further);
-    state::refusals::first(!good, Refusal::Unsound, turn)
-}
-
-// The same of a call that is lent a list of so many numbers, with 10 before them.
-pub fn admit(room: usize, good: bool, awaited: Awaited, further: Check) -> Check
-    ensures { λ r. ⌜ r ≡ admittedOf room good (awaited .next) further ⌝ }
-{
-    let turn = turn_of(good, awaited, further);
-    state::refusals::first(room < 640, Refusal::ListTooShort, turn)
 }

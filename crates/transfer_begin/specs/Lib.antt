@@ -1,2 +1,2 @@
 pub mod Begin
-pub mod Keeps
+pub mod BeginLaws

@@ -1,32 +1,22 @@
 -- The chains of a transfer (document 01, "device.rs, transfers"). How many packets a chain may
 -- have is a parameter, `limit`; M is `m`.
 -- Assumes nothing.
-use Prim.Native.Nat.{ℕ, zero, suc, _+_, _*_, _-_, _/_, _%_, _^_, _≤_, _<_, min, max}
-use mathlib.Core.Path.{_≡_, refl, sym, _∙_}
+use Prim.Native.Nat.{ℕ, _+_, _*_, _-_, _%_, _^_, min, max}
 use mathlib.Core.Bool.{Bool, true, false, _&&_, _||_, not, cond}
 use mathlib.Core.List.{List}
-use native.Mathlib.Nat.{add-div-right, div-zero, div-eq-of-lt, mul-le-mul-right}
-use native.Mathlib.Omega.{arith}
 use lib.Dec.{eqb, leb, ltb}
 use lib.ListN.{length}
-use Rattle.ops.specs.Ops.{Op, flat, records}
-use Rattle.state.specs.declared.Phase.{Phase}
+use Rattle.ops.specs.Ops.{Op}
+use Rattle.base.specs.Ceil.{divCeil}
 use Rattle.state.specs.declared.Transfer.{Transfer}
 use Rattle.state.specs.declared.Slot.{Slot}
+use Rattle.state_slots.specs.Slots.{slotSize, movedSlot}
 use Rattle.regs_endpoint.specs.Endpoint.{chainInOps, chainOutOps}
 use Rattle.transfer_chain.specs.declared.Chain.{Chain}
 
--- the one place where the limit is 255
-abbrev pub chainLimit : ℕ
-chainLimit = 255
-
--- a quotient, rounded up
-abbrev pub roundedUp : ℕ → ℕ → ℕ
-roundedUp n m = (n + (m - 1)) / m
-
 -- packets of a chain with n bytes remaining: n / M rounded up, held to 1..limit
 unfoldable pub chainPackets : ℕ → ℕ → ℕ → ℕ
-chainPackets limit m n = min limit (max 1 (roundedUp n m))
+chainPackets limit m n = min limit (max 1 (divCeil n m))
 
 -- the bytes of an IN chain
 unfoldable pub chainBytes : ℕ → ℕ → ℕ → ℕ
@@ -80,21 +70,6 @@ inGoesOn t = ltb (t .progress) (t .length) || t .zlp
 abbrev pub outGoesOn : ℕ → Transfer → ℕ → Bool
 outGoesOn m t n = leb m n && ltb (t .progress) (t .length)
 
-abbrev pub movedSlot : Slot → Phase → Transfer → Slot
-movedSlot x phase t =
-    record {
-      configured = x .configured;
-      config = x .config;
-      enabled = x .enabled;
-      stalled = x .stalled;
-      phase = phase;
-      transfer = t;
-      tally = x .tally;
-    }
-
-abbrev pub slotSize : Slot → ℕ
-slotSize x = x .config .«max_packet_size»
-
 abbrev pub slotChain : ℕ → Slot → Chain
 slotChain limit x = inChain limit (slotSize x) (x .config .buffer .address) (x .transfer)
 
@@ -113,28 +88,3 @@ nextChain limit false x = outChain limit (slotSize x) (x .transfer)
 
 abbrev pub queueOps : ℕ → ℕ → Bool → Slot → List Op
 queueOps limit e incoming x = chainOps e (slotSize x) incoming (nextChain limit incoming x)
-
--- the division that the code makes
-pub rounded : (n m : ℕ) → 0 < n → 0 < m → (n - 1) / m + 1 ≡ roundedUp n m
-rounded n m h b =
-    let e : n + (m - 1) ≡ n - 1 + m = omega arith in
-    rw e (sym (add-div-right (n - 1) b))
-
-pub rounded-none : (n m : ℕ) → n ≡ 0 → 0 ≡ roundedUp n m
-rounded-none n zero h = sym (div-zero (n + 0))
-rounded-none n (suc m) h = sym (div-eq-of-lt (omega (arith, h)))
-
-pub rounded-zero : (n m : ℕ) → m ≡ 0 → 0 ≡ roundedUp n m
-rounded-zero n m h = rw h (sym (div-zero (n + 0)))
-
--- what the packets of a chain come to in bytes fits 32 bits
-pub product-fits : (p limit m n k : ℕ) → p ≡ chainPackets limit m n → limit < 256 → m < 65536 → k ≤ p → k * m < 4294967296 - 65536
-unfolding chainPackets
-product-fits p limit m n k e b d h =
-    let small : k ≤ 255 = omega (arith, e, b, h) in
-    omega (arith, mul-le-mul-right m small)
-
--- a chain is handed over in five records at most
-pub queue-most : (limit e : ℕ) (incoming : Bool) (x : Slot) → length (flat (queueOps limit e incoming x)) ≤ records 5
-queue-most limit e true x = omega arith
-queue-most limit e false x = omega arith

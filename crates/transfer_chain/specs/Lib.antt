@@ -1,2 +1,3 @@
 pub mod Chains
-pub mod Laws
+pub mod ChainsLaws
+pub mod TransferLaws

@@ -1,13 +1,12 @@
 // Chains: the packets of a transfer that the controller gets at a time (reference: `chain_packets`, `queue` and
 // `data_irq` of device.rs).
 ghost use mathlib.Core.Path.{_≡_};
-ghost use Prim.Native.Nat.{_+_, _≤_, _<_, _-_, min, max};
+ghost use Prim.Native.Nat.{_+_, _≤_};
 ghost use mathlib.Core.Bool.{true, cond};
 ghost use lib.ListN.{length};
 ghost use Rattle.ops.specs.Ops.{records};
 ghost use Rattle.ops.specs.Wrote.{Wrote};
-ghost use Rattle.transfer_chain.specs.Chains.{roundedUp, chainPackets, left, inChain, outChain, sent, arrived, inGoesOn, outGoesOn, movedSlot, queuedSlot, queueOps};
-use state::Phase;
+ghost use Rattle.transfer_chain.specs.Chains.{chainPackets, inChain, outChain, sent, arrived, inGoesOn, outGoesOn, queuedSlot, queueOps};
 use state::Slot;
 use state::Transfer;
 
@@ -28,62 +27,30 @@ pub struct Queued {
     pub end: usize,
 }
 
-fn least(a: u32, b: u32) -> u32
-    ensures { λ r. ⌜ r ≡ min a b ⌝ }
-{
-    if a < b { a } else { b }
-}
-
-fn greatest(a: u32, b: u32) -> u32
-    ensures { λ r. ⌜ r ≡ max a b ⌝ }
-{
-    if a < b { b } else { a }
-}
-
-// a - b, and 0 where b is more.
-fn beyond(a: u32, b: u32) -> u32
-    ensures { λ r. ⌜ r ≡ a - b ⌝ }
-{
-    if b < a { a - b } else { 0 }
-}
-
 fn choose(first: bool, a: u32, b: u32) -> u32
     ensures { λ r. ⌜ r ≡ cond first a b ⌝ }
 {
     if first { a } else { b }
 }
 
-// n / m, rounded up. One division.
-fn rounded_up(n: u32, m: u32) -> u32
-    ensures { λ r. ⌜ r ≡ roundedUp n m ⌝ }
-{
-    if n == 0 {
-        return 0;
-    }
-    if m == 0 {
-        return 0;
-    }
-    (n - 1) / m + 1
-}
-
 // How many packets of m bytes the next chain has, with so many bytes left.
 pub fn chain_packets(limit: u8, m: u16, bytes: u32) -> u32
     ensures { λ r. ⌜ r ≡ chainPackets limit m bytes ⌝ }
 {
-    let all = rounded_up(bytes, m as u32);
-    let some = greatest(1, all);
-    least(limit as u32, some)
+    let all = base::div_ceil(bytes, m as u32);
+    let some = base::max(1, all);
+    base::min(limit as u32, some)
 }
 
 // The next chain of an IN transfer. An empty packet comes from the endpoint's own buffer.
 pub fn in_chain(limit: u8, m: u16, own: u32, transfer: Transfer) -> Chain
     ensures { λ r. ⌜ r ≡ inChain limit m own transfer ⌝ }
 {
-    let rest = beyond(transfer.length, transfer.progress);
+    let rest = base::saturating_sub(transfer.length, transfer.progress);
     let packets = chain_packets(limit, m, rest);
-    let bytes = least(rest, packets * (m as u32));
-    let before = beyond(packets, 1) * (m as u32);
-    let last = beyond(bytes, before);
+    let bytes = base::min(rest, packets * (m as u32));
+    let before = base::saturating_sub(packets, 1) * (m as u32);
+    let last = base::saturating_sub(bytes, before);
     let next = std::num::wrapping_add_u32(transfer.address, transfer.progress);
     let dma = choose(bytes == 0, own, next);
     Chain {
@@ -99,7 +66,7 @@ pub fn in_chain(limit: u8, m: u16, own: u32, transfer: Transfer) -> Chain
 pub fn out_chain(limit: u8, m: u16, transfer: Transfer) -> Chain
     ensures { λ r. ⌜ r ≡ outChain limit m transfer ⌝ }
 {
-    let rest = beyond(transfer.length, transfer.progress);
+    let rest = base::saturating_sub(transfer.length, transfer.progress);
     let packets = chain_packets(limit, m, rest);
     let dma = std::num::wrapping_add_u32(transfer.address, transfer.progress);
     Chain {
@@ -128,13 +95,13 @@ fn after_chain(transfer: Transfer, chain: Chain) -> Transfer
 pub fn after_report(limit: u8, m: u16, transfer: Transfer, packets: u32, last: u32) -> Transfer
     ensures { λ r. ⌜ r ≡ arrived limit m transfer packets last ⌝ }
 {
-    let rest = beyond(transfer.length, transfer.progress);
+    let rest = base::saturating_sub(transfer.length, transfer.progress);
     let expected = chain_packets(limit, m, rest);
-    let some = greatest(1, packets);
-    let held = least(expected, some);
-    let before = beyond(held, 1) * (m as u32);
-    let end = least(last, m as u32);
-    let received = least(before + end, rest);
+    let some = base::max(1, packets);
+    let held = base::min(expected, some);
+    let before = base::saturating_sub(held, 1) * (m as u32);
+    let end = base::min(last, m as u32);
+    let received = base::min(before + end, rest);
     Transfer {
         address: transfer.address,
         length: transfer.length,
@@ -155,23 +122,6 @@ pub fn out_goes_on(m: u16, transfer: Transfer, last: u32) -> bool
     ensures { λ r. ⌜ r ≡ outGoesOn m transfer last ⌝ }
 {
     ((m as u32) <= last) & (transfer.progress < transfer.length)
-}
-
-// The slot in another phase, with another transfer.
-pub fn moved(slot: Slot, phase: Phase, transfer: Transfer) -> Slot
-    ensures { λ r. ⌜ r ≡ movedSlot slot phase transfer ⌝ }
-{
-    let config = slot.config;
-    let tally = slot.tally;
-    Slot {
-        configured: slot.configured,
-        config: config,
-        enabled: slot.enabled,
-        stalled: slot.stalled,
-        phase: phase,
-        transfer: transfer,
-        tally: tally,
-    }
 }
 
 // Hands the next chain of a slot's transfer over.
@@ -205,7 +155,7 @@ fn queue_in(ops: &mut [u32], at: usize, limit: u8, e: u32, slot: Slot) -> Queued
     let chain = in_chain(limit, m, slot.config.buffer.address, transfer);
     let end = regs_endpoint::chain_in(ops, at, e, chain.dma, m as u32, chain.last, chain.packets);
     let after = after_chain(transfer, chain);
-    let next = moved(slot, phase, after);
+    let next = state_slots::completing::moved(slot, phase, after);
     Queued {
         slot: next,
         end: end,

@@ -1,3 +1,4 @@
 pub mod Take
+pub mod TakeLaws
 pub mod Abandon
-pub mod Keeps
+pub mod AbandonLaws

@@ -1,17 +1,15 @@
 -- The window (document 01, "device.rs, transfers").
 -- Assumes nothing.
-use Prim.Native.Nat.{ℕ, _+_, _*_, _≤_}
+use Prim.Native.Nat.{ℕ, _+_}
 use mathlib.Core.Bool.{Bool, true, false, not, cond}
 use mathlib.Core.List.{List, []}
 use lib.Dec.{ltb}
-use lib.ListN.{length}
-use native.Mathlib.Omega.{arith}
-use Rattle.ops.specs.Ops.{Op, flat, records}
-use Rattle.ops.specs.Sequence.{upTo, upTo-most}
+use Rattle.ops.specs.Ops.{Op}
+use Rattle.ops.specs.Sequence.{upTo}
 use Rattle.state.specs.declared.State.{State}
 use Rattle.state_slots.specs.Slots.{idleb, busyb, slotNumber}
 use Rattle.state.specs.Fresh.{slotAt}
-use Rattle.state_slots.specs.Each.{count}
+use Rattle.base.specs.Each.{count}
 use Rattle.regs_endpoint.specs.Endpoint.{windowOps}
 
 -- how many of the first n data slots aren't idle; there are 14, from slot 2 on
@@ -37,15 +35,3 @@ windowsOps s = upTo (windowAt s (outWindow s)) 7
 abbrev pub ownWindowOps : State → ℕ → Bool → List Op
 ownWindowOps s e true = []
 ownWindowOps s e false = windowOps e (outWindow s)
-
--- one record an endpoint at most
-pub windows-most : (s : State) (window n : ℕ) → length (flat (upTo (windowAt s window) n)) ≤ n * records 1
-windows-most s window n = upTo-most (windowAt s window) (records 1) (λ e. one (busyb (slotAt s (slotNumber e false) .phase)) e) n
-  where
-    one : (b : Bool) (e : ℕ) → length (flat (cond b (windowOps e window) [])) ≤ records 1
-    one true e = omega arith
-    one false e = omega arith
-
-pub windows-room : (s : State) → length (flat (windowsOps s)) ≤ records 7
-unfolding windowsOps
-windows-room s = windows-most s (outWindow s) 7

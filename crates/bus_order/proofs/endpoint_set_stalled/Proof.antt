@@ -1,6 +1,6 @@
 -- `endpoint_set_stalled`: the order is obeyed where its slot lies. Assumes nothing.
-use Rattle.bus_order.specs.Orders.{orderCheck, order-told}
-use Rattle.bus_order.specs.declared.Order.the-variants.{Stall}
+use Rattle.bus_order.specs.OrderLaws.{order-told}
+use Rattle.bus_endpoint.specs.declared.Order.the-variants.{Stall}
 use borrow.Author.Needs.{needs}
 use Rattle.bus_order.proofs.endpoint_set_stalled.Statement.{statement}
 use Rattle.bus_order.proofs.endpoint_set_stalled.Tie as tie
@@ -30,7 +30,6 @@ same-length : tie.Need-same-length
 same-length c = search needs
 
 returns : tie.Need-returns
-unfolding orderCheck
 returns c =
     let o = c .before .before .before .before in
     let p = o .before .before .before in

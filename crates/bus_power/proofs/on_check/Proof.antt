@@ -3,17 +3,17 @@ use borrow.Author.Needs.{needs}
 use Rattle.bus_power.proofs.on_check.Statement.{statement}
 use Rattle.bus_power.proofs.on_check.Tie as tie
 
-first-requires : tie.Need-first-requires
-first-requires c κs = search needs
+refuse-if-requires : tie.Need-refuse-if-requires
+refuse-if-requires c κs = search needs
 
-first-requires-2 : tie.Need-first-requires-2
-first-requires-2 c κs = search needs
+refuse-if-requires-2 : tie.Need-refuse-if-requires-2
+refuse-if-requires-2 c κs = search needs
 
 admit-requires : tie.Need-admit-requires
 admit-requires c κs = search needs
 
 returns : tie.Need-returns
-returns c = rw (c .admit .ensures, c .before .first2 .ensures, c .before .before .first .ensures)
+returns c = rw (c .admit .ensures, c .before .refuse-if2 .ensures, c .before .before .refuse-if .ensures)
 
 pub on-check-spec : {M : Type 1} → statement M
-on-check-spec = tie.close (tie.spec first-requires first-requires-2 admit-requires returns)
+on-check-spec = tie.close (tie.spec refuse-if-requires refuse-if-requires-2 admit-requires returns)

@@ -1,21 +1,25 @@
 -- `power_off`: refused, or shut down, and the slots so far are off where they lie. Assumes nothing.
 use borrow.Author.Needs.{needs}
 use Prim.Native.Nat.{_≤_, _-_}
-use mathlib.Core.Bool.{false}
 use mathlib.Core.Path.{_≡_, sym, _∙_}
+use mathlib.Core.List.{[]}
 use native.Mathlib.Omega.{arith}
 use denote.Ref.{now}
 use lib.ListN.{length}
-use Rattle.ops.specs.Wrote.{wrote-length}
-use Rattle.state_slots.specs.Slots.{withSlots, change-none-of, change-next-in}
-use Rattle.state_slots.specs.Each.{change}
-use Rattle.bus_reset.specs.Reset.{slotReset}
-use Rattle.bus_power.specs.Power.{powerOffResult, powerOffList, offStep, offCheck, off-room, off-answer, told-made, told-refused}
+use Rattle.ops.specs.WroteLaws.{same, none, wrote-length}
+use Rattle.state.specs.Setters.{withSlots}
+use Rattle.state_slots.specs.Slots.{offSlot}
+use Rattle.state_slots.specs.SlotsLaws.{change-none-of, change-next-in}
+use Rattle.base.specs.Each.{change}
+use Rattle.state.specs.Refusals.{firstRefusal}
+use Rattle.state_call.specs.OutcomeLaws.{admitted-room}
+use Rattle.bus_power.specs.Power.{offConditions}
+use Rattle.bus_power.specs.PowerLaws.{off-refused, off-made}
 use Rattle.bus_power.proofs.power_off.Statement.{statement}
 use Rattle.bus_power.proofs.power_off.Tie as tie
 
 abbrev Inv-loop : tie.InvT-loop
-Inv-loop ops s₀ good wakes end i₀ s i = (i ≤ 16) × (s ≡ withSlots s₀ (change (slotReset false) i (s₀ .endpoints)))
+Inv-loop ops s₀ good wakes end i₀ s i = (i ≤ 16) × (s ≡ withSlots s₀ (change offSlot i (s₀ .endpoints)))
 
 abbrev μ-loop : tie.MeasureT-loop
 μ-loop ops s₀ good wakes end i₀ s i = 16 - i
@@ -23,8 +27,7 @@ abbrev μ-loop : tie.MeasureT-loop
 abbrev start : tie.After-admit Inv-loop μ-loop → tie.Start Inv-loop μ-loop
 start c = c .before .before .before .before
 
-checked : (c : tie.After-admit Inv-loop μ-loop) → offCheck (length (now (start c .args .ops))) (start c .args .state) (start c .args .events) ≡ c .admit .result
-unfolding offCheck
+checked : (c : tie.After-admit Inv-loop μ-loop) → firstRefusal (offConditions (length (now (start c .args .ops))) (start c .args .state) (start c .args .events)) ≡ c .admit .result
 checked c = sym (rw (c .before .before .sound .ensures) at (c .admit .ensures))
 
 sound-requires : tie.Need-sound-requires Inv-loop μ-loop
@@ -40,12 +43,12 @@ no-wakes-requires : tie.Need-no-wakes-requires Inv-loop μ-loop
 no-wakes-requires c κs = search needs
 
 returns : tie.Need-returns Inv-loop μ-loop
-unfolding powerOffResult powerOffList
 returns c =
     let q = c .before .before in
     let k = q .before .before in
     let a = start k .args in
-    told-refused _ _ _ (a .state) (offStep (a .state)) _ (checked k ∙ q .check .given .1) (rw (c .no-wakes .ensures))
+    let o = off-refused (length (now (a .ops))) (a .state) (a .events) _ (checked k ∙ q .check .given .1) in
+    (o .0, (o .1 .0, (same (o .1 .1 .0) (none _ 0), (c .no-wakes .ensures ∙ o .1 .1 .1 .0, o .1 .1 .1 .1))))
 
 enum-told : tie.Need-enum-told Inv-loop μ-loop
 enum-told c = search needs
@@ -56,10 +59,12 @@ wake-all-requires c κs = search needs
 shut-requires : tie.Need-shut-requires Inv-loop μ-loop
 shut-requires c κs =
     let t = c .before .before in
-    off-room _ _ _ (checked (t .before .before) ∙ t .enum-told .given .1)
+    let k = t .before .before in
+    let a = start k .args in
+    admitted-room (length (now (a .ops))) (a .state) (a .events) [] (checked k ∙ t .enum-told .given .1)
 
 loop-holds : tie.Need-loop-holds Inv-loop μ-loop
-loop-holds c = (search needs, sym (change-none-of (slotReset false) _))
+loop-holds c = (search needs, sym (change-none-of offSlot _))
 
 mul-x : tie.Need-mul-x Inv-loop μ-loop
 mul-x c = search needs
@@ -85,13 +90,12 @@ loop-less c = search needs
 loop-again : tie.Need-loop-again Inv-loop μ-loop
 loop-again c =
     let l = c .before .before .before .loop in
-    (search needs, change-next-in (slotReset false) _ (l .s) (l .i) (c .reset .result) (l .inv .1) (c .reset .ensures))
+    (search needs, change-next-in offSlot _ (l .s) (l .i) (c .reset .result) (l .inv .1) (c .reset .ensures))
 
 same-length : tie.Need-same-length Inv-loop μ-loop
 same-length c = wrote-length (c .before .before .before .before .shut .ensures)
 
 returns-2 : tie.Need-returns-2 Inv-loop μ-loop
-unfolding powerOffResult powerOffList offStep
 returns-2 c =
     let l = c .before in
     let e = l .before .before .before in
@@ -100,7 +104,8 @@ returns-2 c =
     let k = t .before .before in
     let a = start k .args in
     let full : l .loop .i ≡ 16 = omega arith in
-    told-made _ (a .state) _ _ (offStep (a .state)) (checked k ∙ t .enum-told .given .1) (off-answer (a .state)) (rw (rw full at (l .loop .inv .1))) (w .wake-all .ensures) (e .shut .ensures)
+    let o = off-made (length (now (a .ops))) (a .state) (a .events) (checked k ∙ t .enum-told .given .1) in
+    (o .0, (rw (rw full at (l .loop .inv .1)) (o .1 .0), (same (o .1 .1 .0) (e .shut .ensures), (w .wake-all .ensures ∙ o .1 .1 .1 .0, o .1 .1 .1 .1))))
 
 pub power-off-spec : {M : Type 1} → statement M
 power-off-spec =

@@ -3,8 +3,11 @@ use Prim.Native.Nat.{_≤_}
 use mathlib.Core.Path.{_≡_, sym, _∙_}
 use denote.Ref.{now}
 use lib.ListN.{length}
-use Rattle.ops.specs.Wrote.{_▹_, same, none}
-use Rattle.bus_power.specs.Power.{powerOnResult, powerOnList, onStep, onCheck, on-room, on-answer, on-already, on-anew, told-made, told-refused}
+use Rattle.ops.specs.WroteLaws.{_▹_, same, none}
+use Rattle.ops.specs.Ops.{listNumbers}
+use Rattle.state.specs.Refusals.{firstRefusal}
+use Rattle.bus_power.specs.Power.{onConditions}
+use Rattle.bus_power.specs.PowerLaws.{on-fits, on-refused, on-already, on-anew}
 use borrow.Author.Needs.{needs}
 use Rattle.bus_power.proofs.power_on.Statement.{statement}
 use Rattle.bus_power.proofs.power_on.Tie as tie
@@ -12,15 +15,14 @@ use Rattle.bus_power.proofs.power_on.Tie as tie
 abbrev start : tie.After-on-check → tie.Start
 start c = c .before .before .before .before
 
-checked : (c : tie.After-on-check) → onCheck (length (now (start c .args .ops))) (start c .args .state) (start c .args .events) (start c .args .revision) ≡ c .on-check .result
-unfolding onCheck
+checked : (c : tie.After-on-check) → firstRefusal (onConditions (length (now (start c .args .ops))) (start c .args .state) (start c .args .events) (start c .args .revision)) ≡ c .on-check .result
 checked c = sym (rw (c .before .before .sound .ensures) at (c .on-check .ensures))
 
 abbrev tested : tie.After-wake-all → tie.After-on-check
 tested c = c .before .before .before
 
-fitting : (c : tie.After-wake-all) → (640 ≤ length (now (start (tested c) .args .ops))) × (start (tested c) .args .revision ≤ 15)
-fitting c = on-room _ _ _ _ (checked (tested c) ∙ c .before .enum-told .given .1)
+fitting : (c : tie.After-wake-all) → (listNumbers ≤ length (now (start (tested c) .args .ops))) × (start (tested c) .args .revision ≤ 15)
+fitting c = let a = start (tested c) .args in on-fits (length (now (a .ops))) (a .state) (a .events) (a .revision) (checked (tested c) ∙ c .before .enum-told .given .1)
 
 sound-requires : tie.Need-sound-requires
 sound-requires c κs = search needs
@@ -35,12 +37,12 @@ no-wakes-requires : tie.Need-no-wakes-requires
 no-wakes-requires c κs = search needs
 
 returns : tie.Need-returns
-unfolding powerOnResult powerOnList
 returns c =
     let q = c .before .before in
     let k = q .before .before in
     let a = start k .args in
-    told-refused _ _ _ (a .state) (onStep (a .state) (a .revision)) _ (checked k ∙ q .check .given .1) (rw (c .no-wakes .ensures))
+    let o = on-refused (length (now (a .ops))) (a .state) (a .events) (a .revision) _ (checked k ∙ q .check .given .1) in
+    (o .0, (o .1 .0, (same (o .1 .1 .0) (none _ 0), (c .no-wakes .ensures ∙ o .1 .1 .1 .0, o .1 .1 .1 .1))))
 
 enum-told : tie.Need-enum-told
 enum-told c = search needs
@@ -49,13 +51,12 @@ wake-all-requires : tie.Need-wake-all-requires
 wake-all-requires c κs = search needs
 
 returns-2 : tie.Need-returns-2
-unfolding powerOnResult powerOnList onStep
 returns-2 c =
     let w = c .before in
     let k = tested w in
     let a = start k .args in
-    let o = on-already (a .state) (a .revision) (c .if1 .taken) in
-    told-made _ (a .state) _ _ (onStep (a .state) (a .revision)) (checked k ∙ w .before .enum-told .given .1) (on-answer (a .state) (a .revision)) (o .0) (w .wake-all .ensures) (same (o .1) (none _ 0))
+    let o = on-already (length (now (a .ops))) (a .state) (a .events) (a .revision) (checked k ∙ w .before .enum-told .given .1) (c .if1 .taken) in
+    (o .0, (o .1 .0, (same (o .1 .1 .0) (none _ 0), (w .wake-all .ensures ∙ o .1 .1 .1 .0, o .1 .1 .1 .1))))
 
 init-requires : tie.Need-init-requires
 init-requires c κs = let f = fitting (c .before .before) in search needs
@@ -70,7 +71,6 @@ same-length : tie.Need-same-length
 same-length c = search needs
 
 returns-3 : tie.Need-returns-3
-unfolding powerOnResult powerOnList onStep
 returns-3 c =
     let r = c .before .before .before in
     let i = r .before .before .before .before in
@@ -78,9 +78,8 @@ returns-3 c =
     let w = t .before in
     let k = tested w in
     let a = start k .args in
-    let o = on-anew (a .state) (a .revision) (t .if1 .left) in
-    told-made _ (a .state) _ _ (onStep (a .state) (a .revision)) (checked k ∙ w .before .enum-told .given .1) (on-answer (a .state) (a .revision))
-    (rw (r .bus-reset .ensures .0) (o .0)) (w .wake-all .ensures) (same (o .1) (i .init .ensures ▹ r .bus-reset .ensures .1))
+    let o = on-anew (length (now (a .ops))) (a .state) (a .events) (a .revision) (checked k ∙ w .before .enum-told .given .1) (t .if1 .left) in
+    (o .0, (rw (r .bus-reset .ensures .0) (o .1 .0), (same (o .1 .1 .0) (i .init .ensures ▹ r .bus-reset .ensures .1), (w .wake-all .ensures ∙ o .1 .1 .1 .0, o .1 .1 .1 .1))))
 
 pub power-on-spec : {M : Type 1} → statement M
 power-on-spec =

@@ -1,6 +1,6 @@
 -- `shut`: only what is on is shut down. Assumes nothing.
 use borrow.Author.Needs.{needs}
-use Rattle.ops.specs.Wrote.{none}
+use Rattle.ops.specs.WroteLaws.{none}
 use Rattle.bus_power.proofs.shut.Statement.{statement}
 use Rattle.bus_power.proofs.shut.Tie as tie
 

@@ -1,19 +1,19 @@
 -- `bus_reset`: the records of both helpers, and the slots so far are reset where they lie. Assumes nothing.
 use borrow.Author.Needs.{needs}
 use Prim.Native.Nat.{_≤_, _-_}
-use mathlib.Core.Bool.{true}
 use mathlib.Core.Path.{_≡_, sym}
 use native.Mathlib.Omega.{arith}
-use Rattle.ops.specs.Wrote.{_▹_, wrote-length}
-use Rattle.regs_device.specs.Device.{protocol-reset-length}
-use Rattle.state_slots.specs.Slots.{withSlots, change-none-of, change-next-in}
-use Rattle.state_slots.specs.Each.{change}
-use Rattle.bus_reset.specs.Reset.{slotReset}
+use Rattle.ops.specs.WroteLaws.{_▹_, wrote-length}
+use Rattle.regs_device.specs.DeviceLaws.{protocol-reset-length}
+use Rattle.state.specs.Setters.{withSlots}
+use Rattle.state_slots.specs.SlotsLaws.{change-none-of, change-next-in}
+use Rattle.base.specs.Each.{change}
+use Rattle.bus_reset.specs.ResetLaws.{slotReset, reset-both}
 use Rattle.bus_reset.proofs.bus_reset.Statement.{statement}
 use Rattle.bus_reset.proofs.bus_reset.Tie as tie
 
 abbrev Inv-loop : tie.InvT-loop
-Inv-loop ops at s₀ a end generation i₀ s i = (i ≤ 16) × (s ≡ withSlots s₀ (change (slotReset true) i (s₀ .endpoints)))
+Inv-loop ops at s₀ a end generation i₀ s i = (i ≤ 16) × (s ≡ withSlots s₀ (change slotReset i (s₀ .endpoints)))
 
 abbrev μ-loop : tie.MeasureT-loop
 μ-loop ops at s₀ a end generation i₀ s i = 16 - i
@@ -30,7 +30,7 @@ wrapping-add-u32-requires : tie.Need-wrapping-add-u32-requires Inv-loop μ-loop
 wrapping-add-u32-requires c κs = search needs
 
 loop-holds : tie.Need-loop-holds Inv-loop μ-loop
-loop-holds c = (search needs, sym (change-none-of (slotReset true) _))
+loop-holds c = (search needs, sym (change-none-of slotReset _))
 
 mul-x : tie.Need-mul-x Inv-loop μ-loop
 mul-x c = search needs
@@ -56,7 +56,7 @@ loop-less c = search needs
 loop-again : tie.Need-loop-again Inv-loop μ-loop
 loop-again c =
     let l = c .before .before .before .loop in
-    (search needs, change-next-in (slotReset true) _ (l .s) (l .i) (c .reset .result) (l .inv .1) (c .reset .ensures))
+    (search needs, change-next-in slotReset _ (l .s) (l .i) (c .reset .result) (l .inv .1) (c .reset .ensures))
 
 same-length : tie.Need-same-length Inv-loop μ-loop
 same-length c =
@@ -69,7 +69,7 @@ returns c =
     let g = l .before in
     let e = g .before .before .before in
     let full : l .loop .i ≡ 16 = omega arith in
-    (rw (g .wrapping-add-u32 .ensures, rw full at (l .loop .inv .1)), e .before .before .before .before .protocol-reset .ensures ▹ e .link-power-allow .ensures)
+    (rw (g .wrapping-add-u32 .ensures, rw full at (l .loop .inv .1), reset-both), e .before .before .before .before .protocol-reset .ensures ▹ e .link-power-allow .ensures)
 
 pub bus-reset-spec : {M : Type 1} → statement M
 bus-reset-spec =

@@ -1,7 +1,9 @@
 -- `allocate`: placed or refused. Assumes nothing.
 use borrow.Author.Needs.{needs}
 use mathlib.Core.Path.{sym, _∙_}
-use Rattle.driver_allocate.specs.Allocate.{allocateResult, placeable, allocate-told}
+use Rattle.state_call.specs.Outcome.{orElse}
+use Rattle.driver_allocate.specs.Allocate.{allocateResult}
+use Rattle.driver_allocate.specs.AllocateLaws.{placeable, allocate-told}
 use Rattle.driver_allocate.proofs.allocate.Statement.{statement}
 use Rattle.driver_allocate.proofs.allocate.Tie as tie
 
@@ -18,13 +20,13 @@ enum-known-check : tie.Need-enum-known-check
 enum-known-check c = search needs
 
 returns : tie.Need-returns
-unfolding allocateResult
+unfolding allocateResult orElse
 returns c =
     let k = c .before .before .before in
     allocate-told _ _ _ _ (rw (sym (k .allocate-check .ensures) ∙ c .before .enum-told .given .1) (c .place .ensures))
 
 returns-2 : tie.Need-returns-2
-unfolding allocateResult
+unfolding allocateResult orElse
 returns-2 c =
     let t = c .before in
     allocate-told _ _ _ _ (rw (sym (t .before .before .allocate-check .ensures) ∙ t .check .given .1))

@@ -28,23 +28,23 @@ end-of-requires c κs = search needs
 cast-capacity : tie.Need-cast-capacity
 cast-capacity c = search needs
 
-first-requires : tie.Need-first-requires
-first-requires c κs = search needs
+refuse-if-requires : tie.Need-refuse-if-requires
+refuse-if-requires c κs = search needs
 
-first-requires-2 : tie.Need-first-requires-2
-first-requires-2 c κs = search needs
+refuse-if-requires-2 : tie.Need-refuse-if-requires-2
+refuse-if-requires-2 c κs = search needs
 
-first-requires-3 : tie.Need-first-requires-3
-first-requires-3 c κs = search needs
+refuse-if-requires-3 : tie.Need-refuse-if-requires-3
+refuse-if-requires-3 c κs = search needs
 
-first-requires-4 : tie.Need-first-requires-4
-first-requires-4 c κs = search needs
+refuse-if-requires-4 : tie.Need-refuse-if-requires-4
+refuse-if-requires-4 c κs = search needs
 
-first-requires-5 : tie.Need-first-requires-5
-first-requires-5 c κs = search needs
+refuse-if-requires-5 : tie.Need-refuse-if-requires-5
+refuse-if-requires-5 c κs = search needs
 
-first-requires-6 : tie.Need-first-requires-6
-first-requires-6 c κs = search needs
+refuse-if-requires-6 : tie.Need-refuse-if-requires-6
+refuse-if-requires-6 c κs = search needs
 
 returns : tie.Need-returns
 unfolding allocateCheck
@@ -53,7 +53,7 @@ returns c =
     let e = f .before .before .before .before in
     let d = e .before .before .before in
     let k = d .before .before in
-    rw (c .first6 .ensures, c .before .first5 .ensures, c .before .before .first4 .ensures, f .first3 .ensures, f .before .first2 .ensures, f .before .before .first .ensures)
+    rw (c .refuse-if6 .ensures, c .before .refuse-if5 .ensures, c .before .before .refuse-if4 .ensures, f .refuse-if3 .ensures, f .before .refuse-if2 .ensures, f .before .before .refuse-if .ensures)
     (rw (e .end-of .ensures, e .before .size-of .ensures, e .before .before .free-endpoint .ensures)
     (rw (d .direction-valid .ensures, d .before .burst-valid .ensures, k .packet-size-valid .ensures, k .before .driver-sound .ensures)))
 
@@ -69,10 +69,10 @@ allocate-check-spec =
     size-of-requires
     end-of-requires
     cast-capacity
-    first-requires
-    first-requires-2
-    first-requires-3
-    first-requires-4
-    first-requires-5
-    first-requires-6
+    refuse-if-requires
+    refuse-if-requires-2
+    refuse-if-requires-3
+    refuse-if-requires-4
+    refuse-if-requires-5
+    refuse-if-requires-6
     returns)

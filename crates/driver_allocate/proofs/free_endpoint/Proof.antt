@@ -3,7 +3,8 @@ use borrow.Author.Needs.{needs}
 use native.Mathlib.Omega.{arith}
 use mathlib.Core.Path.{_≡_}
 use Prim.Native.Nat.{_≤_, _-_}
-use Rattle.driver_allocate.specs.Rules.{lowest, available, lowest-none, lowest-next}
+use Rattle.driver_allocate.specs.Rules.{lowest, available}
+use Rattle.driver_allocate.specs.RulesLaws.{lowest-none, lowest-next}
 use Rattle.driver_allocate.proofs.free_endpoint.Statement.{statement}
 use Rattle.driver_allocate.proofs.free_endpoint.Tie as tie
 

@@ -1,7 +1,7 @@
 -- `is_available`: the slot is one of the sixteen. Assumes nothing.
 use borrow.Author.Needs.{needs}
 use native.Mathlib.Omega.{arith}
-use Rattle.state_slots.specs.Slots.{bit-small}
+use Rattle.base.specs.BitsLaws.{bit-small}
 use Rattle.driver_allocate.proofs.is_available.Statement.{statement}
 use Rattle.driver_allocate.proofs.is_available.Tie as tie
 

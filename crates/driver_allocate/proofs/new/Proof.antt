@@ -2,7 +2,9 @@
 use borrow.Author.Needs.{needs}
 use native.Mathlib.Omega.{arith}
 use mathlib.Core.Path.{sym, _∙_}
-use Rattle.driver_allocate.specs.Allocate.{newResult, new-start, new-told}
+use Rattle.state_call.specs.Outcome.{orElse}
+use Rattle.driver_allocate.specs.Allocate.{newResult}
+use Rattle.driver_allocate.specs.AllocateLaws.{new-start, new-told}
 use Rattle.driver_allocate.proofs.new.Statement.{statement}
 use Rattle.driver_allocate.proofs.new.Tie as tie
 
@@ -33,14 +35,14 @@ empty-requires-2 : tie.Need-empty-requires-2
 empty-requires-2 c κs = search needs
 
 returns : tie.Need-returns
-unfolding newResult
+unfolding newResult orElse
 returns c =
     let u = c .before .before in
     let k = u .before .before .before in
     new-told _ _ _ (rw (sym (k .new-check .ensures) ∙ u .before .enum-told .given .1, c .empty .ensures, c .before .capacity-of .ensures, u .up4-of .ensures))
 
 returns-2 : tie.Need-returns-2
-unfolding newResult
+unfolding newResult orElse
 returns-2 c =
     let t = c .before .before in
     new-told _ _ _ (rw (sym (t .before .before .new-check .ensures) ∙ t .check .given .1, c .empty2 .ensures))

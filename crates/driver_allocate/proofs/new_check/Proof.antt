@@ -10,11 +10,11 @@ in-ram-requires c κs = search needs
 capacity-of-requires : tie.Need-capacity-of-requires
 capacity-of-requires c κs = search needs
 
-first-requires : tie.Need-first-requires
-first-requires c κs = search needs
+refuse-if-requires : tie.Need-refuse-if-requires
+refuse-if-requires c κs = search needs
 
-first-requires-2 : tie.Need-first-requires-2
-first-requires-2 c κs = search needs
+refuse-if-requires-2 : tie.Need-refuse-if-requires-2
+refuse-if-requires-2 c κs = search needs
 
 returns : tie.Need-returns
 unfolding newCheck
@@ -23,4 +23,4 @@ returns c = cc
 pub new-check-spec : {M : Type 1} → statement M
 new-check-spec =
     tie.close
-    (tie.spec in-ram-requires capacity-of-requires first-requires first-requires-2 returns)
+    (tie.spec in-ram-requires capacity-of-requires refuse-if-requires refuse-if-requires-2 returns)

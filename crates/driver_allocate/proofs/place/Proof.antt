@@ -3,8 +3,9 @@ use borrow.Author.Needs.{needs}
 use native.Mathlib.Omega.{arith}
 use Prim.Native.Nat.{_<_}
 use Rattle.driver_allocate.specs.Allocate.{placed}
-use Rattle.driver_allocate.specs.Rules.{available, lowest-most}
-use Rattle.state_slots.specs.Slots.{bit-small}
+use Rattle.driver_allocate.specs.Rules.{available}
+use Rattle.driver_allocate.specs.RulesLaws.{lowest-most}
+use Rattle.base.specs.BitsLaws.{bit-small}
 use Rattle.driver_allocate.proofs.place.Statement.{statement}
 use Rattle.driver_allocate.proofs.place.Tie as tie
 

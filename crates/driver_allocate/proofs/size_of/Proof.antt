@@ -1,7 +1,7 @@
 -- `size_of`: the product fits. Assumes nothing.
 use borrow.Author.Needs.{needs}
 use native.Mathlib.Omega.{arith}
-use Rattle.driver_allocate.specs.Rules.{size-small}
+use Rattle.driver_allocate.specs.RulesLaws.{size-small}
 use Rattle.driver_allocate.proofs.size_of.Statement.{statement}
 use Rattle.driver_allocate.proofs.size_of.Tie as tie
 

@@ -3,22 +3,23 @@ use borrow.Author.Needs.{needs}
 use Prim.Native.Nat.{_≤_, _-_}
 use mathlib.Core.Path.{_≡_, sym, _∙_}
 use native.Mathlib.Omega.{arith}
-use Rattle.state_slots.specs.Slots.{withSlots}
-use Rattle.driver_start.specs.Start.{startedSlots, started-none, started-next, startCheck, startResult, start-told}
+use Rattle.state.specs.Setters.{withSlots}
+use Rattle.state.specs.Refusals.{firstRefusal}
+use Rattle.driver_start.specs.Start.{startedSlots, startConditions}
+use Rattle.driver_start.specs.StartLaws.{started-none, started-next, start-refused, start-made}
 use Rattle.driver_start.proofs.start.Statement.{statement}
 use Rattle.driver_start.proofs.start.Tie as tie
 
 abbrev Inv-loop : tie.InvT-loop
-Inv-loop control-max-packet-size driver s₀ state-good driver-good i₀ s i = (i ≤ 16) × (s ≡ withSlots s₀ (startedSlots driver i (s₀ .endpoints)))
+Inv-loop control-max-packet-size driver s₀ state-good driver-good wakes i₀ s i = (i ≤ 16) × (s ≡ withSlots s₀ (startedSlots driver i (s₀ .endpoints)))
 
 abbrev μ-loop : tie.MeasureT-loop
-μ-loop control-max-packet-size driver s₀ state-good driver-good i₀ s i = 16 - i
+μ-loop control-max-packet-size driver s₀ state-good driver-good wakes i₀ s i = 16 - i
 
 abbrev begin : tie.After-start-check Inv-loop μ-loop → tie.Start Inv-loop μ-loop
 begin c = c .before .before .before .before
 
-checked : (c : tie.After-start-check Inv-loop μ-loop) → startCheck (begin c .args .state) (begin c .args .events) (begin c .args .t3) (begin c .args .control-max-packet-size) ≡ c .start-check .result
-unfolding startCheck
+checked : (c : tie.After-start-check Inv-loop μ-loop) → firstRefusal (startConditions (begin c .args .state) (begin c .args .events) (begin c .args .t3) (begin c .args .control-max-packet-size)) ≡ c .start-check .result
 checked c =
     let d = c .before .before in
     sym (rw (d .driver-sound .ensures, d .before .sound .ensures) at (c .start-check .ensures))
@@ -35,9 +36,16 @@ start-check-requires c κs = search needs
 enum-known-check : tie.Need-enum-known-check Inv-loop μ-loop
 enum-known-check c = search needs
 
+no-wakes-requires : tie.Need-no-wakes-requires Inv-loop μ-loop
+no-wakes-requires c κs = search needs
+
 returns : tie.Need-returns Inv-loop μ-loop
-unfolding startResult
-returns c = let q = c .before in start-told _ _ _ _ _ (rw (checked (q .before .before) ∙ q .check .given .1))
+returns c =
+    let q = c .before in
+    let w = q .before .before in
+    let a = begin (w .before) .args in
+    let o = start-refused (a .state) (a .events) (a .t3) (a .control-max-packet-size) _ (checked (w .before) ∙ q .check .given .1) in
+    (o .0, (o .1 .0, (o .1 .1 .0, (w .no-wakes .ensures ∙ o .1 .1 .1 .0, o .1 .1 .1 .1))))
 
 enum-told : tie.Need-enum-told Inv-loop μ-loop
 enum-told c = search needs
@@ -76,15 +84,17 @@ loop-again : tie.Need-loop-again Inv-loop μ-loop
 loop-again c =
     let t = c .before .before .before .before in
     let l = t .loop in
-    (search needs, started-next _ (l .s) (begin (t .before .before .before) .args .t3) (l .i) (c .start-slot .result) (l .inv .1) (c .start-slot .ensures))
+    (search needs, started-next _ (l .s) (begin (t .before .before .before .before) .args .t3) (l .i) (c .start-slot .result) (l .inv .1) (c .start-slot .ensures))
 
 returns-2 : tie.Need-returns-2 Inv-loop μ-loop
-unfolding startResult
 returns-2 c =
     let l = c .before in
     let t = l .before in
+    let w = t .before .before in
+    let a = begin (w .before) .args in
     let full : l .loop .i ≡ 16 = omega arith in
-    start-told _ _ _ _ _ (rw (checked (t .before .before) ∙ t .enum-told .given .1, rw full at (l .loop .inv .1)))
+    let o = start-made (a .state) (a .events) (a .t3) (a .control-max-packet-size) (checked (w .before) ∙ t .enum-told .given .1) in
+    (o .0, (rw (rw full at (l .loop .inv .1)) (o .1 .0), (o .1 .1 .0, (w .no-wakes .ensures ∙ o .1 .1 .1 .0, o .1 .1 .1 .1))))
 
 pub start-spec : {M : Type 1} → statement M
 start-spec =
@@ -95,6 +105,7 @@ start-spec =
     sound-requires
     driver-sound-requires
     start-check-requires
+    no-wakes-requires
     enum-known-check
     returns
     enum-told

@@ -5,8 +5,10 @@ use mathlib.Core.Path.{_≡_, _∙_, ap}
 use Prim.Native.Nat.{ℕ, _≤_, _-_}
 use lib.ListN.{length, take, length-take}
 use lib.Seq.{take-length}
-use Rattle.ops.specs.Stores.{Stored, _then_, nothing, stored-length, stored-same}
-use Rattle.ops.specs.Wrote.{rowRecords, row-more, rows-length}
+use Rattle.ops.specs.Stores.{Stored}
+use Rattle.ops.specs.StoresLaws.{_then_, nothing, stored-length, stored-same}
+use Rattle.ops.specs.Wrote.{rowRecords}
+use Rattle.ops.specs.WroteLaws.{row-more, rows-length}
 use Rattle.ops.proofs.append.Statement.{statement}
 use Rattle.ops.proofs.append.Tie as tie
 

@@ -1,6 +1,6 @@
 -- Each number of the row is stored behind the one before. Assumes nothing.
 use borrow.Author.Needs.{needs}
-use Rattle.ops.specs.Stores.{one, next}
+use Rattle.ops.specs.StoresLaws.{one, next}
 use native.Mathlib.Omega.{arith}
 use lib.ListN.{length-set}
 use Rattle.ops.proofs.put.Statement.{statement}

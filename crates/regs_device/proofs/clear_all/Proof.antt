@@ -3,9 +3,12 @@ use borrow.Author.Needs.{needs}
 use native.Mathlib.Omega.{arith}
 use mathlib.Core.Path.{_≡_}
 use Prim.Native.Nat.{_≤_, _-_}
-use Rattle.ops.specs.Wrote.{Wrote, _▹_, wrote-length}
-use Rattle.ops.specs.Sequence.{upTo, upTo-start, upTo-next}
-use Rattle.regs_device.specs.Device.{clearBoth, clear-both-length}
+use Rattle.ops.specs.Wrote.{Wrote}
+use Rattle.ops.specs.WroteLaws.{_▹_, wrote-length}
+use Rattle.ops.specs.Sequence.{upTo}
+use Rattle.ops.specs.SequenceLaws.{upTo-start, upTo-next}
+use Rattle.regs_device.specs.Device.{clearBoth}
+use Rattle.regs_device.specs.DeviceLaws.{clear-both-length}
 use Rattle.regs_device.proofs.clear_all.Statement.{statement}
 use Rattle.regs_device.proofs.clear_all.Tie as tie
 

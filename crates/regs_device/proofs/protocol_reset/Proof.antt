@@ -1,8 +1,8 @@
 -- The operations of the six calls, one after the other; the loop's take 56 records. Assumes nothing.
 use borrow.Author.Needs.{needs}
 use native.Mathlib.Omega.{arith}
-use Rattle.ops.specs.Wrote.{_▹_}
-use Rattle.regs_device.specs.Device.{clear-both-length}
+use Rattle.ops.specs.WroteLaws.{_▹_}
+use Rattle.regs_device.specs.DeviceLaws.{clear-both-length}
 use Rattle.regs_device.proofs.protocol_reset.Statement.{statement}
 use Rattle.regs_device.proofs.protocol_reset.Tie as tie
 

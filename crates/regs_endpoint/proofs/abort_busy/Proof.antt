@@ -1,6 +1,6 @@
 -- `abort_busy`: where there is a chain. Assumes nothing.
 use borrow.Author.Needs.{needs}
-use Rattle.ops.specs.Wrote.{none}
+use Rattle.ops.specs.WroteLaws.{none}
 use Rattle.regs_endpoint.proofs.abort_busy.Statement.{statement}
 use Rattle.regs_endpoint.proofs.abort_busy.Tie as tie
 

@@ -1,5 +1,5 @@
 -- The operations of the two calls, one after the other. Assumes nothing.
-use Rattle.ops.specs.Wrote.{_▹_}
+use Rattle.ops.specs.WroteLaws.{_▹_}
 use borrow.Author.Needs.{needs}
 use Rattle.regs_link.proofs.init.Statement.{statement}
 use Rattle.regs_link.proofs.init.Tie as tie

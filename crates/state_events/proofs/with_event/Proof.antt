@@ -1,7 +1,7 @@
 -- `with_event`: the sum stays a byte, since the bit was clear. Assumes nothing.
 use native.Mathlib.Omega.{arith}
 use mathlib.Core.Path.{sym, _∙_}
-use Rattle.state_events.specs.Bits.{positive, room}
+use Rattle.state_events.specs.BytesLaws.{positive, byte-room}
 use Rattle.state_events.proofs.with_event.Statement.{statement}
 use Rattle.state_events.proofs.with_event.Tie as tie
 
@@ -14,7 +14,7 @@ returns c = cc
 add-result : tie.Need-add-result
 add-result c =
     let s = c .before .before in
-    let fits = room (s .args .events) (s .args .flag) (s .pre) (sym (c .before .is-pending .ensures) ∙ c .if1 .left) in
+    let fits = byte-room (s .args .events) (s .args .flag) (s .pre) (sym (c .before .is-pending .ensures) ∙ c .if1 .left) in
     omega (arith, fits (omega arith))
 
 returns-2 : tie.Need-returns-2

@@ -1,6 +1,6 @@
 -- `without_event`: the difference is a number, since the bit was set. Assumes nothing.
 use mathlib.Core.Path.{sym, _∙_}
-use Rattle.state_events.specs.Bits.{positive, least}
+use Rattle.state_events.specs.BytesLaws.{positive, least}
 use Rattle.state_events.proofs.without_event.Statement.{statement}
 use Rattle.state_events.proofs.without_event.Tie as tie
 

@@ -3,8 +3,8 @@ use borrow.Author.Needs.{needs}
 use mathlib.Core.Path.{_≡_, _∙_, sym}
 use native.Mathlib.Omega.{arith}
 use lib.ListN.{length, List·getD-eq-default}
-use Rattle.state.specs.Fresh.{freshSlot, slotAt}
-use Rattle.state_slots.specs.Each.{length-mapped}
+use Rattle.state.specs.Fresh.{freshSlot}
+use Rattle.base.specs.EachLaws.{length-mapped}
 use Rattle.state_slots.proofs.slot_at.Statement.{statement}
 use Rattle.state_slots.proofs.slot_at.Tie as tie
 

@@ -1,7 +1,7 @@
 -- `slot_number`: a flag adds 1 at most. Assumes nothing.
 use borrow.Author.Needs.{needs}
 use native.Mathlib.Omega.{arith}
-use Rattle.state_slots.specs.Slots.{bit-small}
+use Rattle.base.specs.BitsLaws.{bit-small}
 use Rattle.state_slots.proofs.slot_number.Statement.{statement}
 use Rattle.state_slots.proofs.slot_number.Tie as tie
 

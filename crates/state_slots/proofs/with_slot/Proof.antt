@@ -3,7 +3,7 @@ use borrow.Author.Needs.{needs}
 use mathlib.Core.Path.{_≡_}
 use native.Mathlib.Omega.{arith}
 use lib.ListN.{length}
-use Rattle.state_slots.specs.Each.{length-mapped, set-past}
+use Rattle.base.specs.EachLaws.{length-mapped, set-past}
 use Rattle.state_slots.proofs.with_slot.Statement.{statement}
 use Rattle.state_slots.proofs.with_slot.Tie as tie
 

@@ -1,5 +1,5 @@
 -- `allocation_sound`: held to the clauses where there is one. Assumes nothing.
-use Rattle.state_sound.specs.Sound.{config-none}
+use Rattle.state_sound.specs.SoundLaws.{config-none}
 use borrow.Author.Needs.{needs}
 use Rattle.state_sound.proofs.allocation_sound.Statement.{statement}
 use Rattle.state_sound.proofs.allocation_sound.Tie as tie

@@ -3,7 +3,7 @@ use borrow.Author.Needs.{needs}
 use native.Mathlib.Omega.{arith}
 use mathlib.Core.Path.{_≡_}
 use Prim.Native.Nat.{_≤_, _-_}
-use Rattle.state_slots.specs.Each.{every-none, every-step}
+use Rattle.base.specs.EachLaws.{every-none, every-step}
 use Rattle.state_sound.specs.Sound.{allocationsb}
 use Rattle.state_sound.proofs.allocations_sound.Statement.{statement}
 use Rattle.state_sound.proofs.allocations_sound.Tie as tie

@@ -5,7 +5,8 @@ use mathlib.Core.Path.{_≡_, sym, _∙_}
 use borrow.Author.Tests.{eq-eqb, ne-eqb}
 use Rattle.state.specs.declared.EndpointConfig.{EndpointConfig}
 use Rattle.state_sound.specs.Clauses.{wholePackets, packetSize}
-use Rattle.state_sound.specs.Sound.{configb, config-last, config-other}
+use Rattle.state_sound.specs.Sound.{configb}
+use Rattle.state_sound.specs.SoundLaws.{config-last, config-other}
 use borrow.Author.Needs.{needs}
 use Rattle.state_sound.proofs.config_fits.Statement.{statement}
 use Rattle.state_sound.proofs.config_fits.Tie as tie

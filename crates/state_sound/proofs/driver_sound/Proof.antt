@@ -1,6 +1,6 @@
 -- `driver_sound`: the allocations and the memory. Assumes nothing.
 use borrow.Author.Needs.{needs}
-use Rattle.state_sound.specs.Sound.{driver-parts}
+use Rattle.state_sound.specs.SoundLaws.{driver-parts}
 use Rattle.state_sound.proofs.driver_sound.Statement.{statement}
 use Rattle.state_sound.proofs.driver_sound.Tie as tie
 

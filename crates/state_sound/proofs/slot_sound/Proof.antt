@@ -2,7 +2,8 @@
 use mathlib.Core.Bool.{true, false}
 use mathlib.Core.Path.{_≡_, sym, _∙_}
 use borrow.Author.Tests.{not-true, not-false, lt-ltb, le-ltb, le-leb, lt-leb}
-use Rattle.state_sound.specs.Sound.{configb, config-of, config-none, Configured, slot-misconfigured, slot-ep0, slot-over, slot-idle, slot-done, slot-busy, slot-unready, slot-unused}
+use Rattle.state_sound.specs.Sound.{configb, Configured}
+use Rattle.state_sound.specs.SoundLaws.{config-of, config-none, slot-misconfigured, slot-ep0, slot-over, slot-idle, slot-done, slot-busy, slot-unready, slot-unused}
 use borrow.Author.Needs.{needs}
 use Rattle.state_sound.proofs.slot_sound.Statement.{statement}
 use Rattle.state_sound.proofs.slot_sound.Tie as tie

@@ -5,8 +5,9 @@ use mathlib.Core.Bool.{true}
 use mathlib.Core.Path.{_≡_, sym, _∙_}
 use native.Mathlib.Omega.{arith}
 use borrow.Author.Tests.{not-true, not-false}
-use Rattle.state_slots.specs.Each.{every-none, every-step}
-use Rattle.state_sound.specs.Sound.{slotsb, sound-bad-own, sound-bad-slot, sound-all}
+use Rattle.base.specs.EachLaws.{every-none, every-step}
+use Rattle.state_sound.specs.Sound.{slotsb}
+use Rattle.state_sound.specs.SoundLaws.{sound-bad-own, sound-bad-slot, sound-all}
 use Rattle.state_sound.proofs.sound.Statement.{statement}
 use Rattle.state_sound.proofs.sound.Tie as tie
 

@@ -1,7 +1,7 @@
 -- `whole_packets`: one packet, one burst, or by division. Assumes nothing.
 use native.Mathlib.Omega.{arith}
 use borrow.Author.Tests.{lt-ltb, le-ltb}
-use Rattle.state_sound.specs.Sound.{whole-packet, whole-burst, burst-fits}
+use Rattle.state_sound.specs.SoundLaws.{whole-packet, whole-burst, burst-fits}
 use borrow.Author.Needs.{needs}
 use Rattle.state_sound.proofs.whole_packets.Statement.{statement}
 use Rattle.state_sound.proofs.whole_packets.Tie as tie

@@ -2,31 +2,41 @@
 use borrow.Author.Needs.{needs}
 use Prim.Native.Nat.{_≤_, _<_, _-_}
 use native.Mathlib.Omega.{arith}
-use mathlib.Core.Bool.{false, not}
+use mathlib.Core.Bool.{not}
 use mathlib.Core.Path.{_≡_, ap, sym, _∙_}
 use denote.Ref.{now}
 use lib.ListN.{length}
-use Rattle.ops.specs.Wrote.{Wrote, same, none, wrote-length, _▹_}
-use Rattle.ops.specs.Sequence.{upTo, upTo-start, upTo-next}
-use Rattle.state_slots.specs.Slots.{bit-small, withSlot}
-use Rattle.state_slots.specs.Each.{count-none, count-step}
-use Rattle.transfer_window.specs.Window.{inHandCount, windowOf, outWindow, windowAt, windowsOps, windows-most}
+use Rattle.ops.specs.Wrote.{Wrote}
+use Rattle.ops.specs.WroteLaws.{same, none, wrote-length, _▹_}
+use Rattle.ops.specs.Sequence.{upTo}
+use Rattle.ops.specs.SequenceLaws.{upTo-start, upTo-next}
+use Rattle.state.specs.Setters.{withSlot}
+use Rattle.base.specs.BitsLaws.{bit-small}
+use Rattle.base.specs.EachLaws.{count-none, count-step}
+use Rattle.transfer_window.specs.Window.{inHandCount, windowOf, outWindow, windowAt, windowsOps}
+use Rattle.transfer_window.specs.WindowLaws.{windows-most}
 use Rattle.state.specs.declared.State.{State}
-use Rattle.transfer_begin.specs.Begin.{Piece, piece, beginCheck, flag-free, check-place, begin-room, begin-refused, begin-stored, begin-number}
+use Rattle.ops.specs.Ops.{listNumbers}
+use Rattle.state.specs.Refusals.{firstRefusal}
+use Rattle.state_slots.specs.Slots.{slotOf}
+use Rattle.state_call.specs.OutcomeLaws.{admitted-room}
+use Rattle.transfer_begin.specs.Begin.{beginConditions}
+use Rattle.transfer_piece.specs.Piece.{Piece, piece, beginOwn}
+use Rattle.transfer_begin.specs.BeginLaws.{check-place, begin-refused, begin-stored}
 use Rattle.transfer_begin.proofs.begin.Statement.{statement}
 use Rattle.transfer_begin.proofs.begin.Tie as tie
 
 abbrev Inv-loop : tie.InvT-loop
-Inv-loop ops index incoming address length zlp s good wakes i y count₀ n₀ count n = (n ≤ 14) × (count ≤ n) × (count ≡ inHandCount s n)
+Inv-loop ops index incoming address length zlp long unfit s good wakes i y count₀ n₀ count n = (n ≤ 14) × (count ≤ n) × (count ≡ inHandCount s n)
 
 abbrev μ-loop : tie.MeasureT-loop
-μ-loop ops index incoming address length zlp s good wakes i y count₀ n₀ count n = 14 - n
+μ-loop ops index incoming address length zlp long unfit s good wakes i y count₀ n₀ count n = 14 - n
 
 abbrev Inv-loop2 : tie.InvT-loop2
-Inv-loop2 ops₀ index incoming address length zlp s good wakes i y count n window a₀ e₀ ops a e = (e ≤ 7) × Wrote ops₀ 0 (upTo (windowAt s window) e) a ops
+Inv-loop2 ops₀ index incoming address length zlp long unfit s good wakes i y count n window a₀ e₀ ops a e = (e ≤ 7) × Wrote ops₀ 0 (upTo (windowAt s window) e) a ops
 
 abbrev μ-loop2 : tie.MeasureT-loop2
-μ-loop2 ops₀ index incoming address length zlp s good wakes i y count n window a₀ e₀ ops a e = 7 - e
+μ-loop2 ops₀ index incoming address length zlp long unfit s good wakes i y count n window a₀ e₀ ops a e = 7 - e
 
 abbrev start : tie.After-admit Inv-loop μ-loop Inv-loop2 μ-loop2 → tie.Start Inv-loop μ-loop Inv-loop2 μ-loop2
 start c = c .before .before .before .before .before .before .before .before
@@ -34,12 +44,12 @@ start c = c .before .before .before .before .before .before .before .before
 abbrev asked : tie.After-admit Inv-loop μ-loop Inv-loop2 μ-loop2 → Piece
 asked c = piece (start c .args .address) (start c .args .length) (start c .args .zlp)
 
-checked : (c : tie.After-admit Inv-loop μ-loop Inv-loop2 μ-loop2) → beginCheck (start c .args .state) (start c .args .events) (start c .args .index) (start c .args .incoming) (asked c) (length (now (start c .args .ops))) ≡ c .admit .result
+checked : (c : tie.After-admit Inv-loop μ-loop Inv-loop2 μ-loop2)
+    → firstRefusal (beginConditions (length (now (start c .args .ops))) (start c .args .state) (start c .args .events) (start c .args .index) (start c .args .incoming) (asked c) (start c .args .long) (start c .args .unfit)) ≡ c .admit .result
 checked c =
     let a = start c .args in
     let p = c .before .before .before in
-    flag-free (a .state) (a .events) (a .index) (a .incoming) (a .address) (a .length) (a .zlp) false _
-    ∙ sym (check-place (a .state) (a .events) (a .index) (a .incoming) (piece (a .address) (a .length) false) _)
+    sym (check-place (length (now (a .ops))) (a .state) (a .events) (a .index) (a .incoming) (asked c) (a .long) (a .unfit))
     ∙ sym (rw (c .before .slot-check .ensures, p .before .before .before .sound .ensures, p .slot-place .ensures) at (c .admit .ensures))
 
 abbrev tested : tie.After-begun-slot Inv-loop μ-loop Inv-loop2 μ-loop2 → tie.After-admit Inv-loop μ-loop Inv-loop2 μ-loop2
@@ -48,8 +58,11 @@ tested c = c .before .before .before
 placed : (c : tie.After-begun-slot Inv-loop μ-loop Inv-loop2 μ-loop2) → tested c .before .before .before .slot-place .result < 16
 placed c = omega (arith, tested c .before .before .before .slot-place .ensures)
 
-lent : (c : tie.After-begun-slot Inv-loop μ-loop Inv-loop2 μ-loop2) → 640 ≤ length (now (start (tested c) .args .ops))
-lent c = begin-room _ _ _ _ _ _ (checked (tested c) ∙ c .before .enum-told .given .1)
+lent : (c : tie.After-begun-slot Inv-loop μ-loop Inv-loop2 μ-loop2) → listNumbers ≤ length (now (start (tested c) .args .ops))
+lent c =
+    let a = start (tested c) .args in
+    admitted-room (length (now (a .ops))) (a .state) (a .events) (beginOwn (a .state .powered) (a .index) (a .incoming) (a .address) (a .length) (a .long) (a .unfit) (slotOf (a .state) (a .index) (a .incoming)))
+    (checked (tested c) ∙ c .before .enum-told .given .1)
 
 -- the state that has the transfer in hand, and its window
 abbrev in-hand : tie.After-window-of Inv-loop μ-loop Inv-loop2 μ-loop2 → State
@@ -93,8 +106,8 @@ returns c =
     let q = c .before in
     let k = q .before .before in
     let a = start k .args in
-    let o = begin-refused (a .state) (a .events) (a .index) (a .incoming) (asked k) _ _ (checked k ∙ q .check .given .1) in
-    (o .0, (o .1 .0, (same (o .1 .1) (none _ _), (k .before .before .before .before .no-wakes .ensures, begin-number _ _ _ _ _ _ _ (o .0)))))
+    let o = begin-refused (length (now (a .ops))) (a .state) (a .events) (a .index) (a .incoming) (asked k) (a .long) (a .unfit) _ (checked k ∙ q .check .given .1) in
+    (o .0, (o .1 .0, (same (o .1 .1 .0) (none _ _), (k .before .before .before .before .no-wakes .ensures ∙ o .1 .1 .1 .0, o .1 .1 .1 .1))))
 
 enum-told : tie.Need-enum-told Inv-loop μ-loop Inv-loop2 μ-loop2
 enum-told c = search needs
@@ -208,10 +221,10 @@ returns-2 c =
     let p = k .before .before .before in
     let a = start k .args in
     let e = q .queue .ensures in
-    let o = begin-stored (a .state) (a .events) (a .index) (a .incoming) (asked k) _ _ _ _ (checked k ∙ b .before .enum-told .given .1) (p .slot-place .ensures) (b .begun-slot .ensures) (e .0) in
+    let o = begin-stored (length (now (a .ops))) (a .state) (a .events) (a .index) (a .incoming) (asked k) (a .long) (a .unfit) _ _ _ (checked k ∙ b .before .enum-told .given .1) (p .slot-place .ensures) (b .begun-slot .ensures) (e .0) in
     let full : t .loop2 .e ≡ 7 = omega arith in
     let windows = rw (full, own w) at (t .loop2 .inv .1) in
-    (o .0, (o .1 .0, (same (o .1 .1) (windows ▹ e .1), (p .before .no-wakes .ensures, begin-number _ _ _ _ _ _ _ (o .0)))))
+    (o .0, (o .1 .0, (same (o .1 .1 .0) (windows ▹ e .1), (p .before .no-wakes .ensures ∙ o .1 .1 .1 .0, o .1 .1 .1 .1))))
 
 pub begin-spec : {M : Type 1} → statement M
 begin-spec =

@@ -4,14 +4,14 @@ use Rattle.transfer_chain.specs.Chains.{chainPackets}
 use Rattle.transfer_chain.proofs.chain_packets.Statement.{statement}
 use Rattle.transfer_chain.proofs.chain_packets.Tie as tie
 
-rounded-up-requires : tie.Need-rounded-up-requires
-rounded-up-requires c κs = search needs
+div-ceil-requires : tie.Need-div-ceil-requires
+div-ceil-requires c κs = search needs
 
-greatest-requires : tie.Need-greatest-requires
-greatest-requires c κs = search needs
+max-requires : tie.Need-max-requires
+max-requires c κs = search needs
 
-least-requires : tie.Need-least-requires
-least-requires c κs = search needs
+min-requires : tie.Need-min-requires
+min-requires c κs = search needs
 
 returns : tie.Need-returns
 unfolding chainPackets
@@ -19,4 +19,4 @@ returns c = cc
 
 pub chain-packets-spec : {M : Type 1} → statement M
 chain-packets-spec =
-    tie.close (tie.spec rounded-up-requires greatest-requires least-requires returns)
+    tie.close (tie.spec div-ceil-requires max-requires min-requires returns)

@@ -3,8 +3,8 @@ use borrow.Author.Needs.{needs}
 use Rattle.transfer_chain.proofs.out_chain.Statement.{statement}
 use Rattle.transfer_chain.proofs.out_chain.Tie as tie
 
-beyond-requires : tie.Need-beyond-requires
-beyond-requires c κs = search needs
+saturating-sub-requires : tie.Need-saturating-sub-requires
+saturating-sub-requires c κs = search needs
 
 chain-packets-requires : tie.Need-chain-packets-requires
 chain-packets-requires c κs = search needs
@@ -17,4 +17,4 @@ returns c = cc
 
 pub out-chain-spec : {M : Type 1} → statement M
 out-chain-spec =
-    tie.close (tie.spec beyond-requires chain-packets-requires wrapping-add-u32-requires returns)
+    tie.close (tie.spec saturating-sub-requires chain-packets-requires wrapping-add-u32-requires returns)

@@ -1,6 +1,6 @@
 -- `queue`: by the direction. Assumes nothing.
 use borrow.Author.Needs.{needs}
-use Rattle.ops.specs.Wrote.{same}
+use Rattle.ops.specs.WroteLaws.{same}
 use mathlib.Core.Path.{refl}
 use Rattle.transfer_chain.proofs.queue.Statement.{statement}
 use Rattle.transfer_chain.proofs.queue.Tie as tie

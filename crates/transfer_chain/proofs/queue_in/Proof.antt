@@ -1,6 +1,6 @@
 -- `queue_in`: the chain handed over, and the transfer further by it. Assumes nothing.
 use borrow.Author.Needs.{needs}
-use Rattle.ops.specs.Wrote.{same}
+use Rattle.ops.specs.WroteLaws.{same}
 use Rattle.transfer_chain.proofs.queue_in.Statement.{statement}
 use Rattle.transfer_chain.proofs.queue_in.Tie as tie
 

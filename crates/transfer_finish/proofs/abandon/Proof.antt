@@ -4,16 +4,18 @@ use native.Mathlib.Omega.{arith}
 use mathlib.Core.Path.{_≡_, sym, _∙_}
 use denote.Ref.{now}
 use lib.ListN.{length}
-use Rattle.ops.specs.Wrote.{same}
-use Rattle.transfer_finish.specs.Abandon.{abandonCheck, abandon-room, abandon-stored, abandon-numbers}
+use Rattle.ops.specs.WroteLaws.{same}
+use Rattle.state.specs.Refusals.{firstRefusal}
+use Rattle.state_call.specs.OutcomeLaws.{admitted-room}
+use Rattle.transfer_finish.specs.Abandon.{abandonOwn, abandonConditions}
+use Rattle.transfer_finish.specs.AbandonLaws.{abandon-stored}
 use Rattle.transfer_finish.proofs.abandon.Statement.{statement}
 use Rattle.transfer_finish.proofs.abandon.Tie as tie
 
 abbrev start : tie.After-abandon-check → tie.Start
 start c = c .before .before .before .before .before
 
-checked : (c : tie.After-abandon-check) → abandonCheck (start c .args .state) (start c .args .events) (start c .args .index) (length (now (start c .args .ops))) ≡ c .abandon-check .result
-unfolding abandonCheck
+checked : (c : tie.After-abandon-check) → firstRefusal (abandonConditions (length (now (start c .args .ops))) (start c .args .state) (start c .args .events) (start c .args .index)) ≡ c .abandon-check .result
 checked c = sym (rw (c .before .before .before .sound .ensures) at (c .abandon-check .ensures))
 
 sound-requires : tie.Need-sound-requires
@@ -35,7 +37,10 @@ element-copy-out-slot : tie.Need-element-copy-out-slot
 element-copy-out-slot c = search needs
 
 abandon-slot-requires : tie.Need-abandon-slot-requires
-abandon-slot-requires c κs q = omega (arith, abandon-room _ _ _ _ (checked (c .before .before .before) ∙ q))
+abandon-slot-requires c κs q =
+    let k = c .before .before .before in
+    let a = start k .args in
+    omega (arith, admitted-room (length (now (a .ops))) (a .state) (a .events) (abandonOwn (a .index)) (checked k ∙ q))
 
 mul-y : tie.Need-mul-y
 mul-y c = search needs
@@ -52,10 +57,10 @@ returns c =
     let p = g .before .before .before in
     let k = p .before in
     let a = start k .args in
-    let o = abandon-stored (a .state) (a .events) (a .index) (a .incoming) _ (k .abandon-check .result) (checked k) in
+    let o = abandon-stored _ (a .state) (a .events) (a .index) (a .incoming) (k .abandon-check .result) (checked k) in
     let e = rw (p .slot-place .ensures) at (g .abandon-slot .ensures) in
     let answer = e .0 ∙ o .0 in
-    (answer, (rw (p .slot-place .ensures, e .1 .0) (o .1 .0), (same (o .1 .1) (e .1 .1), (k .before .no-wakes .ensures, abandon-numbers _ _ _ _ _ _ answer))))
+    (answer, (rw (p .slot-place .ensures, e .1 .0) (o .1 .0), (same (o .1 .1 .0) (e .1 .1), (k .before .no-wakes .ensures ∙ o .1 .1 .1 .0, rw answer (o .1 .1 .1 .1)))))
 
 pub abandon-spec : {M : Type 1} → statement M
 abandon-spec =

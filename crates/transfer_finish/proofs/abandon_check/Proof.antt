@@ -6,15 +6,15 @@ use Rattle.transfer_finish.proofs.abandon_check.Tie as tie
 is-data-endpoint-requires : tie.Need-is-data-endpoint-requires
 is-data-endpoint-requires c κs = search needs
 
-first-requires : tie.Need-first-requires
-first-requires c κs = search needs
+refuse-if-requires : tie.Need-refuse-if-requires
+refuse-if-requires c κs = search needs
 
 admit-requires : tie.Need-admit-requires
 admit-requires c κs = search needs
 
 returns : tie.Need-returns
-returns c = rw (c .admit .ensures, c .before .first .ensures, c .before .before .is-data-endpoint .ensures)
+returns c = rw (c .admit .ensures, c .before .refuse-if .ensures, c .before .before .is-data-endpoint .ensures)
 
 pub abandon-check-spec : {M : Type 1} → statement M
 abandon-check-spec =
-    tie.close (tie.spec is-data-endpoint-requires first-requires admit-requires returns)
+    tie.close (tie.spec is-data-endpoint-requires refuse-if-requires admit-requires returns)

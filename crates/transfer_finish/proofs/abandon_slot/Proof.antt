@@ -2,7 +2,8 @@
 use borrow.Author.Needs.{needs}
 use native.Mathlib.Omega.{arith}
 use mathlib.Core.Path.{refl}
-use Rattle.ops.specs.Wrote.{same, none}
+use Rattle.ops.specs.WroteLaws.{same, none}
+use Rattle.state_call.specs.Outcome.{orElse}
 use Rattle.transfer_finish.proofs.abandon_slot.Statement.{statement}
 use Rattle.transfer_finish.proofs.abandon_slot.Tie as tie
 
@@ -30,6 +31,7 @@ same-length : tie.Need-same-length
 same-length c = search needs
 
 returns : tie.Need-returns
+unfolding orElse
 returns c =
     let f = c .before in
     let e = f .before .before .before in
@@ -38,6 +40,7 @@ returns c =
     (rw (c .settle-time .ensures, b .is-busy .ensures), (f .forget .ensures, same (rw (b .is-busy .ensures)) (e .abort-busy .ensures)))
 
 returns-2 : tie.Need-returns-2
+unfolding orElse
 returns-2 c = rw (c .before .check .given .1) (refl, (refl, none _ _))
 
 pub abandon-slot-spec : {M : Type 1} → statement M

@@ -1,6 +1,7 @@
 -- `take`: the slot is taken where it lies. Assumes nothing.
 use borrow.Author.Needs.{needs}
-use Rattle.transfer_finish.specs.Take.{take-told, took-take}
+use Rattle.transfer_finish.specs.TakeLaws.{took-take}
+use mathlib.Core.Path.{_∙_}
 use Rattle.transfer_finish.proofs.take.Statement.{statement}
 use Rattle.transfer_finish.proofs.take.Tie as tie
 
@@ -34,8 +35,8 @@ returns c =
     let p = t .before .before in
     let g = p .before .before .before in
     let a = g .before .args in
-    take-told _ _ _ _ _
-    (rw (p .before .no-wakes .ensures, t .take-slot .ensures, g .sound .ensures, p .slot-place .ensures) (took-take (a .state) (a .events) (a .index) (a .incoming)))
+    let o = took-take (a .state) (a .events) (a .index) (a .incoming) (a .unfit) (a .most) _ (rw (g .sound .ensures, p .slot-place .ensures) at (t .take-slot .ensures)) in
+    (o .0, (rw (p .slot-place .ensures) (o .1 .0), (p .before .no-wakes .ensures ∙ o .1 .1 .0, o .1 .1 .1)))
 
 pub take-spec : {M : Type 1} → statement M
 take-spec =

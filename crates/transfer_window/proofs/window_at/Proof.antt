@@ -1,6 +1,6 @@
 -- `window_at`: written where the endpoint is busy. Assumes nothing.
 use borrow.Author.Needs.{needs}
-use Rattle.ops.specs.Wrote.{none}
+use Rattle.ops.specs.WroteLaws.{none}
 use Rattle.transfer_window.proofs.window_at.Statement.{statement}
 use Rattle.transfer_window.proofs.window_at.Tie as tie
 

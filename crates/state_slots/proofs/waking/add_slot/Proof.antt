@@ -1,7 +1,7 @@
 -- `add_slot`: a slot's bit is set where it isn't yet. Assumes nothing.
 use borrow.Author.Needs.{needs}
 use native.Mathlib.Omega.{arith}
-use Rattle.state_slots.specs.Waking.{add-room, add-nothing, add-had, add-new}
+use Rattle.state_slots.specs.WakingLaws.{add-room, add-nothing, add-had, add-new}
 use Rattle.state_slots.proofs.waking.add_slot.Statement.{statement}
 use Rattle.state_slots.proofs.waking.add_slot.Tie as tie
 

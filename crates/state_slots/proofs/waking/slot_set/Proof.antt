@@ -2,7 +2,7 @@
 use borrow.Author.Needs.{needs}
 use borrow.Author.Tests.{le-ltb}
 use native.Mathlib.Omega.{arith}
-use Rattle.state_slots.specs.Waking.{bit-fits}
+use Rattle.state_slots.specs.WakingLaws.{bit-fits}
 use Rattle.state_slots.proofs.waking.slot_set.Statement.{statement}
 use Rattle.state_slots.proofs.waking.slot_set.Tie as tie
 

@@ -1,0 +1,3 @@
+pub mod Raise
+pub mod Poll
+pub mod EventLaws

@@ -1,0 +1,3 @@
+pub mod OrderKeeps
+pub mod PowerKeeps
+pub mod EventKeeps

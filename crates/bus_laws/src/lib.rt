@@ -1,0 +1,1 @@
+// No code: specs/ has what holds of orders, queries, resets, power and events.

@@ -1,0 +1,39 @@
+-- `is_enabled`: the slot's flag. Assumes nothing.
+use mathlib.Core.Bool.{_&&_}
+use Rattle.bus_query.specs.Query.{enabledCall}
+use Rattle.bus_query.specs.QueryLaws.{asked-place, query-told}
+use borrow.Author.Needs.{needs}
+use Rattle.bus_query.proofs.is_enabled.Statement.{statement}
+use Rattle.bus_query.proofs.is_enabled.Tie as tie
+
+slot-place-requires : tie.Need-slot-place-requires
+slot-place-requires c κs = search needs
+
+mul-x : tie.Need-mul-x
+mul-x c = search needs
+
+element-copy-out-x : tie.Need-element-copy-out-x
+element-copy-out-x c = search needs
+
+sound-requires : tie.Need-sound-requires
+sound-requires c κs = search needs
+
+answer-requires : tie.Need-answer-requires
+answer-requires c κs = search needs
+
+no-wakes-requires : tie.Need-no-wakes-requires
+no-wakes-requires c κs = search needs
+
+returns : tie.Need-returns
+unfolding enabledCall
+returns c =
+    let k = c .before in
+    let g = k .before in
+    let p = g .before .before .before in
+    let a = p .before .before .args in
+    query-told (a .t1) (a .events) _ _ _ (rw (k .answer .ensures, g .sound .ensures, p .slot-place .ensures, asked-place (λ x. a .t1 .powered && x .enabled) (a .t1) (a .index) (a .incoming))) (c .no-wakes .ensures)
+
+pub is-enabled-spec : {M : Type 1} → statement M
+is-enabled-spec =
+    tie.close
+    (tie.spec slot-place-requires mul-x element-copy-out-x sound-requires answer-requires no-wakes-requires returns)

@@ -1,0 +1,3 @@
+pub mod LowestLaws
+pub mod LayoutLaws
+pub mod StartKeeps

@@ -1,0 +1,1 @@
+// No code: specs/ has what holds of slots, and of a state that is put together anew.

@@ -1,0 +1,3 @@
+pub mod BeginKeeps
+pub mod FinishKeeps
+pub mod ReportKeeps
