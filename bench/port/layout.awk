@@ -38,7 +38,7 @@ END {
         split(k, part, SUBSEP)
         print "#define " part[1] "_arg" part[2] " " argument[k]
     }
-    state = argument["sound__sound", 0] # it returns no struct, so its first argument is %a0
+    state = argument["state_sound__sound", 0] # it returns no struct, so its first argument is %a0
     for (c in result)
         if ((c, state) in place) print "#define " c "_state " place[c, state]
 }

@@ -28,13 +28,14 @@ typedef struct { uint8_t bus; uint16_t slots; } Wakes;
 
 typedef struct { Answer answer; Driver driver; } NewResult;
 typedef struct { Allocated answer; Driver driver; } AllocateResult;
-typedef struct { State state; Answer answer; Events events; } StartResult;
+typedef struct { State state; Answer answer; Events events; Wakes wakes; } StartResult;
 typedef struct { State state; Answer answer; uint64_t end; Wakes wakes; } Result; /* of begin, the orders and power */
 typedef struct { State state; Number answer; Wakes wakes; } TakeResult;
 typedef struct { State state; Number answer; uint64_t end; Wakes wakes; } AbandonResult;
-typedef struct { State state; uint64_t end; } Ended; /* of the reports and the bus reset */
-typedef struct { Answer answer; Events events; } RaiseResult;
-typedef struct { Query answer; Events events; } PollResult;
+typedef struct { State state; uint64_t end; } Ended; /* of the report and the bus reset */
+typedef struct { Answer answer; Events events; Wakes wakes; } RaiseResult;
+typedef struct { Query answer; Events events; Wakes wakes; } PollResult;
+typedef struct { Query answer; Wakes wakes; } QueryResult;
 
 /* A call as the module has it. It doesn't compile where a struct here has another size than there. */
 #define CALL(name, result, ...) \
@@ -53,23 +54,23 @@ CALL(driver_allocate__new, NewResult, uint32_t address, uint32_t length);
 CALL(driver_allocate__allocate, AllocateResult, const Driver *, _Bool incoming, const Request *);
 STATE_CALL(driver_start__start, StartResult, const State *, const Events *, const Driver *, uint16_t size);
 STATE_CALL(transfer_begin__begin, Result, const List *, const State *, const Events *, uint8_t index, _Bool incoming,
-    uint32_t address, uint32_t length, _Bool zlp);
-STATE_CALL(transfer_report__report_in, Ended, const List *, uint64_t at, const State *, uint8_t index);
-STATE_CALL(transfer_report__report_out, Ended, const List *, uint64_t at, const State *, uint8_t index, uint32_t packets,
-    uint32_t last);
-STATE_CALL(transfer_finish__take, TakeResult, const State *, const Events *, uint8_t index, _Bool incoming);
+    uint32_t address, uint32_t length, _Bool zlp, _Bool too_long, _Bool unfit);
+STATE_CALL(transfer_report__report, Ended, const List *, uint64_t at, const State *, uint8_t index, _Bool incoming,
+    uint32_t packets, uint32_t last);
+STATE_CALL(transfer_finish__take, TakeResult, const State *, const Events *, uint8_t index, _Bool incoming, _Bool unfit,
+    uint32_t most);
 STATE_CALL(transfer_finish__abandon, AbandonResult, const List *, const State *, const Events *, uint8_t index, _Bool incoming);
 STATE_CALL(bus_order__endpoint_set_stalled, Result, const List *, const State *, const Events *, uint8_t index,
     _Bool incoming, _Bool stalled);
 STATE_CALL(bus_order__endpoint_set_enabled, Result, const List *, const State *, const Events *, uint8_t index,
     _Bool incoming, _Bool enabled);
-CALL(bus_order__is_stalled, Query, const State *, const Events *, uint8_t index, _Bool incoming);
-CALL(bus_order__is_enabled, Query, const State *, const Events *, uint8_t index, _Bool incoming);
+CALL(bus_query__is_stalled, QueryResult, const State *, const Events *, uint8_t index, _Bool incoming);
+CALL(bus_query__is_enabled, QueryResult, const State *, const Events *, uint8_t index, _Bool incoming);
 STATE_CALL(bus_power__power_on, Result, const List *, const State *, const Events *, uint32_t revision);
 STATE_CALL(bus_power__power_off, Result, const List *, const State *, const Events *);
 STATE_CALL(bus_reset__bus_reset, Ended, const List *, uint64_t at, const State *);
-CALL(state_events__raise, RaiseResult, const Events *, uint8_t event);
-CALL(state_events__poll, PollResult, const Events *);
+CALL(bus_events__raise, RaiseResult, const State *, const Events *, uint8_t event);
+CALL(bus_events__poll, PollResult, const State *, const Events *);
 _Bool state_sound__sound(const State *, const Events *);
 
 enum { BULK = 2, RESET = 1, POWER = 8, REVISION = 3, WIDTH = 5 };
@@ -125,7 +126,7 @@ void side_setup(int slots) {
 /* The state with a transfer begun. */
 static State begun(State s, int index, int incoming, uint32_t length) {
     static Result r;
-    transfer_begin__begin(&r, &list, &s, &events, index, incoming, PIECE, length, 0);
+    transfer_begin__begin(&r, &list, &s, &events, index, incoming, PIECE, length, 0, 0, 0);
     want(r.answer.kind == 1, "a transfer begun before the call");
     return r.state;
 }
@@ -144,7 +145,7 @@ int side_run(const char *row) {
         if (busy)
             for (int e = 2; e <= 7; e++) s = begun(s, e, 0, SHORT);
         bench_on();
-        transfer_begin__begin(&r, &list, &s, &events, 1, incoming, PIECE, SHORT, 0);
+        transfer_begin__begin(&r, &list, &s, &events, 1, incoming, PIECE, SHORT, 0, 0, 0);
         bench_off();
         want(r.answer.kind == 1, row);
         want_records(r.end, incoming ? 5 : busy ? 11 : 5, row);
@@ -152,14 +153,14 @@ int side_run(const char *row) {
         int on = is(row, "report_in_on");
         s = begun(s, 1, 1, on ? LONG : SHORT);
         bench_on();
-        transfer_report__report_in(&ended, &list, 0, &s, 1);
+        transfer_report__report(&ended, &list, 0, &s, 1, 1, 0, 0);
         bench_off();
         want_records(ended.end, on ? 6 : 1, row);
     } else if (is(row, "report_out_on") || is(row, "report_out_done")) {
         int on = is(row, "report_out_on");
         s = begun(s, 1, 0, on ? LONG : SHORT);
         bench_on();
-        transfer_report__report_out(&ended, &list, 0, &s, 1, on ? 255 : 8, 1024);
+        transfer_report__report(&ended, &list, 0, &s, 1, 0, on ? 255 : 8, 1024);
         bench_off();
         want_records(ended.end, on ? 6 : 1, row);
     } else if (is(row, "take_busy") || is(row, "take_done")) {
@@ -167,11 +168,11 @@ int side_run(const char *row) {
         int done = is(row, "take_done");
         s = begun(s, 1, 1, SHORT);
         if (done) {
-            transfer_report__report_in(&ended, &list, 0, &s, 1);
+            transfer_report__report(&ended, &list, 0, &s, 1, 1, 0, 0);
             s = ended.state;
         }
         bench_on();
-        transfer_finish__take(&t, &s, &events, 1, 1);
+        transfer_finish__take(&t, &s, &events, 1, 1, 0, UINT32_MAX);
         bench_off();
         want(done ? t.answer.kind == 2 && t.answer.value == SHORT : t.answer.kind == 1, row);
         want_records(0, 0, row);
@@ -200,13 +201,13 @@ int side_run(const char *row) {
         want(r.answer.kind == 1 && r.wakes.slots == 1 << 3, row);
         want_records(r.end, enabled ? 10 : 5, row);
     } else if (is(row, "is_stalled") || is(row, "is_enabled")) {
-        Query query;
+        QueryResult query;
         int enabled = is(row, "is_enabled");
         bench_on();
-        if (enabled) bus_order__is_enabled(&query, &s, &events, 1, 1);
-        else bus_order__is_stalled(&query, &s, &events, 1, 1);
+        if (enabled) bus_query__is_enabled(&query, &s, &events, 1, 1);
+        else bus_query__is_stalled(&query, &s, &events, 1, 1);
         bench_off();
-        want(query.kind == 1 && query.value == enabled, row);
+        want(query.answer.kind == 1 && query.answer.value == enabled, row);
         want_records(0, 0, row);
     } else if (is(row, "power_on")) {
         s = off;
@@ -236,14 +237,14 @@ int side_run(const char *row) {
     } else if (is(row, "raise")) {
         RaiseResult raised;
         bench_on();
-        state_events__raise(&raised, &events, RESET);
+        bus_events__raise(&raised, &s, &events, RESET);
         bench_off();
         want(raised.answer.kind == 1 && raised.events.bits == two.bits, row);
         want_records(0, 0, row);
     } else if (is(row, "poll")) {
         PollResult polled;
         bench_on();
-        state_events__poll(&polled, &two);
+        bus_events__poll(&polled, &s, &two);
         bench_off();
         want(polled.answer.kind == 2 && polled.answer.value == 0 && polled.events.bits == RESET, row);
         want_records(0, 0, row);
