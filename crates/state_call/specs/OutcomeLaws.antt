@@ -24,7 +24,7 @@ use Rattle.state_slots.specs.Slots.{slotNumber, slotPlace, slotOf, dataEndpoint
 use Rattle.state_slots.specs.SlotsLaws.{data-place}
 use Rattle.state_slots.specs.Waking.{noWakes}
 use Rattle.state_sound.specs.Sound.{soundb}
-use Rattle.state_call.specs.Turn.{turnOf, admittedOf, admitted}
+use Rattle.state_call.specs.Turn.{turnOf, admittedOf, admitted, readingIn}
 use Rattle.state_call.specs.Outcome.{Outcome, orElse, refusal, unless}
 
 -- by what the tests come to
@@ -82,6 +82,14 @@ pub passed : (room : ℕ) (good : Bool) (next : Awaiting) (own : List Condition)
 passed room good next own n =
     let n1 = not-due n in
     (ltb-false _ _ (n1 .0), passed-turn good next own (n1 .1))
+
+pub passed-reading : (room : ℕ) (s : State) (v : Events) (matches : Bool) (own : List Condition) → NoneDue (readingIn room s v matches own)
+    → (listNumbers ≤ room) × ((soundb s v ≡ true) × ((matches ≡ true) × NoneDue own))
+passed-reading room s v matches own n =
+    let n1 = not-due n in
+    let n2 = not-due (n1 .1) in
+    let n3 = not-due (n2 .1) in
+    (ltb-false _ _ (n1 .0), (not-false _ (n2 .0), (not-false matches (n3 .0), n3 .1)))
 
 -- a call that fits was lent enough
 pub lent-room : (room : ℕ) (good : Bool) (next : Awaiting) (own : List Condition) → firstRefusal (admittedOf room good next own) ≡ Fits → listNumbers ≤ room
