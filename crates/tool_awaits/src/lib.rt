@@ -15,7 +15,7 @@ fn of_the_link(next: Awaiting) {
         Awaiting::LinkStatus | Awaiting::TermPresStatus | Awaiting::WarmResetStatus => {
             text(b"link_status")
         }
-        Awaiting::PortCapability => text(b"force_pm"),
+        Awaiting::PortCapability => text(b"port_capability"),
         Awaiting::MessageWord => text(b"message_word"),
         _ => of_a_transfer(next),
     }

@@ -295,7 +295,7 @@ fn a_reading(random: &mut Random, word: &str, asked: &[usize], quiet: bool, size
             let state = random.one_of(&[0, 1, 2, 3, 4, 4, 4, 5, 6, 7, 7, 8, 9, 4_000_000_000]);
             vec![state, flag(random, 2), flag(random, 3)]
         }
-        "force_pm" => vec![random.below(2)],
+        "port_capability" => vec![random.below(2)],
         "message_word" => {
             let word = random.below(1 << 32);
             // Type 0 and each subtype are favoured.

@@ -35,7 +35,7 @@ const KINDS: [Kind; 10] = [
         register: "link_status",
         fields: &[("link_state", ANY), ("link_rx_term_pres", FLAG), ("link_rx_warm_rst", FLAG)],
     },
-    Kind { word: "force_pm", register: "link_lmp_port_cap", fields: &[("force_pm", FLAG)] },
+    Kind { word: "port_capability", register: "link_lmp_port_cap", fields: &[("force_pm", FLAG)] },
     Kind { word: "message_word", register: "link_lmp_rx_data", fields: &[("all", ANY)] },
     Kind {
         word: "transfer_status",

@@ -36,7 +36,7 @@ pub const WORDS: [(&str, &[u32]); 40] = [
     ("interrupt", &[]),
     ("link_flags", &[ANY; 7]),
     ("link_status", &[ANY; 3]),
-    ("force_pm", &[ANY]),
+    ("port_capability", &[ANY]),
     ("message_word", &[ANY]),
     ("transfer_status", &[ANY; 9]),
     ("setup_bytes", &[255; 8]),
