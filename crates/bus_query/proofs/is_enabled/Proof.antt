@@ -1,6 +1,10 @@
 -- `is_enabled`: the slot's flag. Assumes nothing.
 use mathlib.Core.Bool.{_&&_}
-use Rattle.bus_query.specs.Query.{enabledCall}
+use mathlib.Core.Path.{ap, _∙_}
+use Rattle.state.specs.Refusals.{firstRefusal}
+use Rattle.state_call.specs.Outcome.{orElse}
+use Rattle.bus_query.specs.declared.QueryAnswer.the-variants as query
+use Rattle.bus_query.specs.Query.{queryConditions, enabledCall}
 use Rattle.bus_query.specs.QueryLaws.{asked-place, query-told}
 use borrow.Author.Needs.{needs}
 use Rattle.bus_query.proofs.is_enabled.Statement.{statement}
@@ -31,7 +35,10 @@ returns c =
     let g = k .before in
     let p = g .before .before .before in
     let a = p .before .before .args in
-    query-told (a .t1) (a .events) _ _ _ (rw (k .answer .ensures, g .sound .ensures, p .slot-place .ensures, asked-place (λ x. a .t1 .powered && x .enabled) (a .t1) (a .index) (a .incoming))) (c .no-wakes .ensures)
+    let said = rw (g .sound .ensures, p .slot-place .ensures) at (k .answer .ensures) in
+    query-told (a .t1) (a .events) _ _ _
+    (said ∙ ap (λ b. orElse (firstRefusal (queryConditions (a .t1) (a .events))) query.Refused (query.Says b)) (asked-place (λ x. a .t1 .powered && x .enabled) (a .t1) (a .index) (a .incoming)))
+    (c .no-wakes .ensures)
 
 pub is-enabled-spec : {M : Type 1} → statement M
 is-enabled-spec =
