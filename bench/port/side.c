@@ -57,9 +57,9 @@ STATE_CALL(transfer_begin__begin, Result, const List *, const State *, const Eve
     uint32_t address, uint32_t length, _Bool zlp, _Bool too_long, _Bool unfit);
 STATE_CALL(transfer_report__report, Ended, const List *, uint64_t at, const State *, uint8_t index, _Bool incoming,
     uint32_t packets, uint32_t last);
-STATE_CALL(transfer_finish__take, TakeResult, const State *, const Events *, uint8_t index, _Bool incoming, _Bool unfit,
+STATE_CALL(transfer_take__take, TakeResult, const State *, const Events *, uint8_t index, _Bool incoming, _Bool unfit,
     uint32_t most);
-STATE_CALL(transfer_finish__abandon, AbandonResult, const List *, const State *, const Events *, uint8_t index, _Bool incoming);
+STATE_CALL(transfer_abandon__abandon, AbandonResult, const List *, const State *, const Events *, uint8_t index, _Bool incoming);
 STATE_CALL(bus_order__endpoint_set_stalled, Result, const List *, const State *, const Events *, uint8_t index,
     _Bool incoming, _Bool stalled);
 STATE_CALL(bus_order__endpoint_set_enabled, Result, const List *, const State *, const Events *, uint8_t index,
@@ -172,7 +172,7 @@ int side_run(const char *row) {
             s = ended.state;
         }
         bench_on();
-        transfer_finish__take(&t, &s, &events, 1, 1, 0, UINT32_MAX);
+        transfer_take__take(&t, &s, &events, 1, 1, 0, UINT32_MAX);
         bench_off();
         want(done ? t.answer.kind == 2 && t.answer.value == SHORT : t.answer.kind == 1, row);
         want_records(0, 0, row);
@@ -181,7 +181,7 @@ int side_run(const char *row) {
         int busy = is(row, "abandon_busy");
         if (busy) s = begun(s, 1, 1, SHORT);
         bench_on();
-        transfer_finish__abandon(&a, &list, &s, &events, 1, 1);
+        transfer_abandon__abandon(&a, &list, &s, &events, 1, 1);
         bench_off();
         want(a.answer.kind == 1 && a.answer.value == (busy ? 100 : 0), row);
         want_records(a.end, busy ? 3 : 0, row);

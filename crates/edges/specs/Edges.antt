@@ -32,7 +32,7 @@ use Rattle.transfer_window.specs.Window.{outWindow, windowsOps}
 use Rattle.transfer_begin.specs.Begin.{beginCall}
 use Rattle.transfer_piece.specs.Piece.{Piece, piece}
 use Rattle.transfer_report.specs.Report.{reportState, reportOps}
-use Rattle.transfer_finish.specs.Take.{takeOwn, takeNumbers, tookAt}
+use Rattle.transfer_take.specs.Take.{takeOwn, takeNumbers, tookAt}
 use Rattle.bus_events.specs.Raise.{raiseCall}
 use Rattle.bus_events.specs.Poll.{pollCall, pollNumbers}
 

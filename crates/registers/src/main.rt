@@ -98,7 +98,7 @@ fn cell(number: u32) {
 fn name(row: Row) {
     let mut out = [0u8; 60];
     let register_end = tool_names::register_name(&mut out, 0, row[0]);
-    let field_end = tool_names::field_name(&mut out, register_end, row[1]);
+    let field_end = tool_fields::field_name(&mut out, register_end, row[1]);
     let end = tool_names::value_name(&mut out, field_end, row[2]);
     print(&out[0..end]);
 }

@@ -1,7 +1,7 @@
 // A transfer taken, or given up.
 use tool_scripts::Word;
-use transfer_finish::AbandonAnswer;
-use transfer_finish::TakeAnswer;
+use transfer_abandon::AbandonAnswer;
+use transfer_take::TakeAnswer;
 use world::World;
 
 // A word of another group is unfit here.
@@ -20,7 +20,7 @@ fn take(world: World, line: &[u8]) -> World {
     let at = tool_arguments::endpoint(line);
     let state = world.state;
     let events = world.events;
-    let taken = transfer_finish::take(state, events, at.index, at.incoming, false, u32::MAX);
+    let taken = transfer_take::take(state, events, at.index, at.incoming, false, u32::MAX);
     let answer = taken.answer;
     let wakes = taken.wakes;
     match answer {
@@ -36,7 +36,7 @@ fn abandon(list: &mut [u32; 640], world: World, line: &[u8]) -> World {
     let at = tool_arguments::endpoint(line);
     let state = world.state;
     let events = world.events;
-    let abandoned = transfer_finish::abandon(list, state, events, at.index, at.incoming);
+    let abandoned = transfer_abandon::abandon(list, state, events, at.index, at.incoming);
     tool_print::operations(list, abandoned.end);
     let answer = abandoned.answer;
     let wakes = abandoned.wakes;

@@ -56,7 +56,7 @@ fn field_cell(text: &mut [u8], at: usize, field: u32) -> usize
     requires { ⌜ at + 21 ≤ length (now text) ⌝ }
     ensures { λ r. ⌜ r ≤ at + 21 ⌝ }
 {
-    let end = tool_names::field_name(text, at, field);
+    let end = tool_fields::field_name(text, at, field);
     put(text, end, b"\t")
 }
 

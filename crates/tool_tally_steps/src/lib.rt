@@ -58,13 +58,13 @@ pub fn begun(list: &mut [u32; 640], state: State, index: u8, incoming: bool, len
 
 pub fn taken(state: State, index: u8, incoming: bool) -> State {
     let events = pending();
-    let take = transfer_finish::take(state, events, index, incoming, false, u32::MAX);
+    let take = transfer_take::take(state, events, index, incoming, false, u32::MAX);
     take.state
 }
 
 pub fn abandoned(list: &mut [u32; 640], state: State, index: u8, incoming: bool) -> State {
     let events = pending();
-    let given_up = transfer_finish::abandon(list, state, events, index, incoming);
+    let given_up = transfer_abandon::abandon(list, state, events, index, incoming);
     given_up.state
 }
 

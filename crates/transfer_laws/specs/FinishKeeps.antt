@@ -16,10 +16,10 @@ use Rattle.state_slots.specs.TallyLaws.{unmoved-difference, forgotten-keeps, ke
 use Rattle.state_sound.specs.Sound.{soundb, slotb}
 use Rattle.state_sound.specs.FactLaws.{one-slot-kept, idled-sound}
 use Rattle.state_call.specs.OutcomeLaws.{keeps, passed-turn}
-use Rattle.transfer_finish.specs.declared.TakeAnswer.the-variants as take
-use Rattle.transfer_finish.specs.declared.AbandonAnswer.the-variants as abandon
-use Rattle.transfer_finish.specs.Take.{takeOwn, takeConditions, takenSlot, takeLeaves, takeCall}
-use Rattle.transfer_finish.specs.Abandon.{abandonConditions, abandonedSlot, abandonCall}
+use Rattle.transfer_take.specs.declared.TakeAnswer.the-variants as take
+use Rattle.transfer_abandon.specs.declared.AbandonAnswer.the-variants as abandon
+use Rattle.transfer_take.specs.Take.{takeOwn, takeConditions, takenSlot, takeLeaves, takeCall}
+use Rattle.transfer_abandon.specs.Abandon.{abandonConditions, abandonedSlot, abandonCall}
 
 -- a slot that is taken or abandoned is idle, or as it was
 left-sound : (p : Bool) (i : ℕ) (x : Slot) → slotb p i x ≡ true → slotb p i (takeLeaves x) ≡ true

@@ -1,0 +1,2 @@
+pub mod Abandon
+pub mod AbandonLaws

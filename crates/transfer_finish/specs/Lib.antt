@@ -1,4 +1,0 @@
-pub mod Take
-pub mod TakeLaws
-pub mod Abandon
-pub mod AbandonLaws
