@@ -5,7 +5,7 @@ use mathlib.Core.Bool.{true}
 use mathlib.Core.Path.{_≡_, refl}
 use Rattle.state.specs.declared.State.{State}
 use Rattle.state.specs.declared.Events.{Events}
-use Rattle.state_events.specs.EventsLaws.{raise-sound, poll-sound}
+use Rattle.state_laws.specs.EventsLaws.{raise-sound, poll-sound}
 use Rattle.state_sound.specs.Sound.{soundb}
 use Rattle.state_sound.specs.FactLaws.{own-facts, events-sound}
 use Rattle.state_call.specs.OutcomeLaws.{keeps}

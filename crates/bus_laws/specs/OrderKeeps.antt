@@ -11,7 +11,7 @@ use Rattle.state.specs.declared.Events.{Events}
 use Rattle.state.specs.Fresh.{slotAt}
 use Rattle.state_slots.specs.Slots.{idleb, dataEndpoint, slotNumber, slotOf}
 use Rattle.state_slots.specs.Tally.{KeepsAccount}
-use Rattle.state_slots.specs.TallyLaws.{forgotten-keeps, unmoved}
+use Rattle.state_laws.specs.TallyLaws.{forgotten-keeps, unmoved}
 use Rattle.state_slots.specs.StoredLaws.{stored-slot}
 use Rattle.state_sound.specs.Sound.{soundb, slotb}
 use Rattle.state_sound.specs.FactLaws.{SlotFacts, slot-facts, slot-sound, idled-sound, one-slot-kept}

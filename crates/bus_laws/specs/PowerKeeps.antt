@@ -15,7 +15,7 @@ use Rattle.state.specs.Fresh.{freshSlot, slotAt}
 use Rattle.state.specs.Awaiting.{awaitingb}
 use Rattle.state_slots.specs.Slots.{resetSlot, offSlot}
 use Rattle.state_slots.specs.Tally.{KeepsAccount}
-use Rattle.state_slots.specs.TallyLaws.{forgotten-keeps, unmoved}
+use Rattle.state_laws.specs.TallyLaws.{forgotten-keeps, unmoved}
 use Rattle.state_sound.specs.Sound.{soundb, slotb}
 use Rattle.state_sound.specs.FactLaws.{slot-sound, own-facts, own-is, sound-is, idled-sound, fresh-slot-sound}
 use Rattle.state_call.specs.OutcomeLaws.{keeps, passed}

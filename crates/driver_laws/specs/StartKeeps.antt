@@ -12,7 +12,7 @@ use Rattle.state.specs.declared.Events.{Events}
 use Rattle.state.specs.declared.Driver.{Driver}
 use Rattle.state.specs.Fresh.{freshSlot, slotAt, allocationAt}
 use Rattle.state_slots.specs.Tally.{KeepsAccount}
-use Rattle.state_slots.specs.TallyLaws.{reset-keeps, unmoved}
+use Rattle.state_laws.specs.TallyLaws.{reset-keeps, unmoved}
 use Rattle.state.specs.Awaiting.{awaitingb}
 use Rattle.state.specs.Refusals.{NoneDue}
 use Rattle.base.specs.EachLaws.{and-left, and-right, changed-at}

@@ -1,2 +1,6 @@
+pub mod CompletingLaws
+pub mod TallyLaws
+pub mod EventsLaws
+pub mod FaultLaws
 pub mod SlotLaws
 pub mod SetterLaws

@@ -2,4 +2,3 @@ pub mod Clauses
 pub mod Sound
 pub mod SoundLaws
 pub mod FactLaws
-pub mod FaultLaws

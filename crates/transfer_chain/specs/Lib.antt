@@ -1,3 +1,2 @@
 pub mod Chains
 pub mod ChainsLaws
-pub mod TransferLaws

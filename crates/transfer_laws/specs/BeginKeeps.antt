@@ -18,13 +18,13 @@ use Rattle.state.specs.Refusals.{NoneDue}
 use Rattle.state.specs.RefusalsLaws.{not-due}
 use Rattle.state_slots.specs.Slots.{dataEndpoint, idleb, slotNumber, slotOf, slotSize, ready}
 use Rattle.state_slots.specs.Tally.{SameDifference}
-use Rattle.state_slots.specs.TallyLaws.{unmoved-difference, stored-difference}
+use Rattle.state_laws.specs.TallyLaws.{unmoved-difference, stored-difference}
 use Rattle.state_sound.specs.Clauses.{inRam, aligned, multiple, isIn}
 use Rattle.state_sound.specs.Sound.{soundb, slotb}
 use Rattle.state_sound.specs.FactLaws.{in-ram, Ready, OutFacts, BusyFacts, changed-sound, multiple-facts, in-slot, out-slot, one-slot-kept}
 use Rattle.state_call.specs.OutcomeLaws.{keeps, passed}
 use Rattle.transfer_chain.specs.Chains.{queuedSlot, nextChain}
-use Rattle.transfer_chain.specs.TransferLaws.{sent-within, whole-of, chainMoves, Inside, chain-inside}
+use Rattle.transfer_laws.specs.TransferLaws.{sent-within, whole-of, chainMoves, Inside, chain-inside}
 use Rattle.transfer_begin.specs.declared.BeginAnswer.the-variants as begin
 use Rattle.transfer_begin.specs.Begin.{beginConditions, begunAt, beginCall}
 use Rattle.transfer_piece.specs.Piece.{Piece, pieceFits, beginOwn, begunSlot}

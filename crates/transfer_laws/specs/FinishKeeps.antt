@@ -12,7 +12,7 @@ use Rattle.state.specs.Refusals.{NoneDue}
 use Rattle.state.specs.RefusalsLaws.{not-due}
 use Rattle.state_slots.specs.Slots.{idleb, busyb, slotNumber, slotOf}
 use Rattle.state_slots.specs.Tally.{SameDifference}
-use Rattle.state_slots.specs.TallyLaws.{unmoved-difference, forgotten-keeps, keeps-difference, stored-difference}
+use Rattle.state_laws.specs.TallyLaws.{unmoved-difference, forgotten-keeps, keeps-difference, stored-difference}
 use Rattle.state_sound.specs.Sound.{soundb, slotb}
 use Rattle.state_sound.specs.FactLaws.{one-slot-kept, idled-sound}
 use Rattle.state_call.specs.OutcomeLaws.{keeps, passed-turn}

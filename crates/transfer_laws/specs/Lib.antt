@@ -1,3 +1,4 @@
+pub mod TransferLaws
 pub mod BeginKeeps
 pub mod FinishKeeps
 pub mod ReportKeeps

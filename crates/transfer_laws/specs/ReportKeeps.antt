@@ -18,13 +18,13 @@ use Rattle.state.specs.Fresh.{slotAt}
 use Rattle.state.specs.Setters.{withSlot, limitOf}
 use Rattle.state_slots.specs.Slots.{idleb, busyb, slotNumber, slotOf, slotSize, movedSlot}
 use Rattle.state_slots.specs.Tally.{SameDifference}
-use Rattle.state_slots.specs.TallyLaws.{unmoved-difference, stored-difference}
+use Rattle.state_laws.specs.TallyLaws.{unmoved-difference, stored-difference}
 use Rattle.state_sound.specs.Clauses.{isIn}
 use Rattle.state_sound.specs.Sound.{soundb, slotb}
 use Rattle.state_sound.specs.FactLaws.{OutFacts, BusyFacts, SlotFacts, slot-facts, Moves, changed-sound, in-slot, one-slot-kept}
 use Rattle.state_laws.specs.SetterLaws.{wake-sound}
 use Rattle.transfer_chain.specs.Chains.{chainPackets, left, place, slotChain, nextChain, queuedSlot, sent, reported, arrived, inGoesOn, outGoesOn}
-use Rattle.transfer_chain.specs.TransferLaws.{packets-some, sent-within, last-has-rest, Whole, whole-of, whole-progress, report-fits, report-counted, still-whole, chainMoves, Inside, chain-inside}
+use Rattle.transfer_laws.specs.TransferLaws.{packets-some, sent-within, last-has-rest, Whole, whole-of, whole-progress, report-fits, report-counted, still-whole, chainMoves, Inside, chain-inside}
 use Rattle.transfer_report.specs.Report.{stateAfter, reportState}
 use Rattle.transfer_step.specs.Step.{stepOf, countedTransfer, countedSlot}
 
