@@ -27,7 +27,7 @@ pollAnswer (pending.Event e) = poll.Event e
 unfoldable pub pollCall : State → Events → Outcome PollAnswer
 pollCall s v =
     unless poll.Refused (firstRefusal (pollConditions s v)) s v
-    (record { answer = pollAnswer (nextPending (v .events)); state = s; events = record { events = pollByte (v .events) }; ops = []; wakes = noWakes })
+    (record { answer = pollAnswer (nextPending (v .events)); state = s; events = record { events = pollByte (v .events) }; ops = []; wakes = noWakes; copied = [] })
 
 -- the numbers of an answer: the refusal's, or 0 and the event's, which is 0 where none is pending
 abbrev pub pollNumbers : PollAnswer → List ℕ

@@ -25,7 +25,7 @@ raiseConditions s v event = inTurn s v (raiseOwn event)
 unfoldable pub raiseCall : State → Events → ℕ → Outcome RaiseAnswer
 raiseCall s v event =
     unless raise.Refused (firstRefusal (raiseConditions s v event)) s v
-    (record { answer = raise.Raised; state = s; events = record { events = raiseByte (v .events) event }; ops = []; wakes = noWakes })
+    (record { answer = raise.Raised; state = s; events = record { events = raiseByte (v .events) event }; ops = []; wakes = noWakes; copied = [] })
 
 -- the number of an answer: 0 for an event raised, else the refusal's
 abbrev pub raiseNumber : RaiseAnswer → ℕ

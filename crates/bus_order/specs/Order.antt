@@ -28,6 +28,7 @@ orderCall room s v e incoming o =
       events = v;
       ops = madeOps (s .powered) e incoming o (slotOf s e incoming);
       wakes = orderWakes e incoming;
+      copied = [];
     })
 
 -- the number of an answer: 0 for an order that was taken, else the refusal's

@@ -15,8 +15,7 @@ use Rattle.state_slots.specs.Slots.{slotsOff}
 use Rattle.state_slots.specs.Waking.{wakeAll}
 use Rattle.state_call.specs.Turn.{admitted}
 use Rattle.state_call.specs.Outcome.{Outcome, unless}
-use Rattle.regs_device.specs.Device.{shutdownOps}
-use Rattle.regs_device.specs.Room.{powerOnOps}
+use Rattle.regs_device.specs.Device.{shutdownOps, powerOnOps}
 use Rattle.bus_reset.specs.Reset.{busResetState}
 use Rattle.bus_power.specs.declared.PowerAnswer.{PowerAnswer}
 use Rattle.bus_power.specs.declared.PowerAnswer.the-variants as power
@@ -44,6 +43,7 @@ powerOnCall room s v revision =
       events = v;
       ops = cond (s .powered) [] (powerOnOps revision (s .«ep0_address»));
       wakes = wakeAll;
+      copied = [];
     })
 
 abbrev pub offConditions : ℕ → State → Events → List Condition
@@ -60,7 +60,7 @@ shutOps powered = cond powered shutdownOps []
 unfoldable pub powerOffCall : ℕ → State → Events → Outcome PowerAnswer
 powerOffCall room s v =
     unless power.Refused (firstRefusal (offConditions room s v)) s v
-    (record { answer = power.Off; state = offState s; events = v; ops = shutOps (s .powered); wakes = wakeAll })
+    (record { answer = power.Off; state = offState s; events = v; ops = shutOps (s .powered); wakes = wakeAll; copied = [] })
 
 -- the number of an answer: 0, or the refusal's
 abbrev pub powerNumber : PowerAnswer → ℕ

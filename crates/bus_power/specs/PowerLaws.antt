@@ -18,8 +18,8 @@ use Rattle.state_slots.specs.Waking.{noWakes, wakeAll}
 use Rattle.state_sound.specs.Sound.{soundb}
 use Rattle.state_call.specs.Outcome.{orElse}
 use Rattle.state_call.specs.OutcomeLaws.{passed}
-use Rattle.regs_device.specs.Room.{powerOnOps}
-use Rattle.regs_device.specs.RoomLaws.{longest}
+use Rattle.regs_device.specs.Device.{powerOnOps}
+use Rattle.regs_device.specs.DeviceLaws.{power-on-length}
 use Rattle.bus_power.specs.declared.PowerAnswer.the-variants as power
 use Rattle.bus_power.specs.Power.{onOwn, onConditions, onState, powerOnCall, offConditions, offState, shutOps, powerOffCall, powerNumber}
 
@@ -62,7 +62,7 @@ module _ (room : ℕ) (s : State) (v : Events) (revision : ℕ) where
   -- the longest list of all
   pub on-length : firstRefusal (onConditions room s v revision) ≡ Fits → s .powered ≡ false → length (flat (powerOnCall room s v revision .ops)) ≡ records 127
   unfolding powerOnCall orElse
-  on-length h off = rw (h, off) (longest revision (s .«ep0_address») false .0)
+  on-length h off = rw (h, off) (power-on-length revision (s .«ep0_address»))
 
 module _ (room : ℕ) (s : State) (v : Events) where
   pub off-bound : Bound (offConditions room s v) (firstRefusal (offConditions room s v))

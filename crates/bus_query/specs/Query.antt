@@ -31,7 +31,7 @@ queryConditions s v = inTurn s v []
 
 abbrev pub queryCall : State → Events → Bool → Outcome QueryAnswer
 queryCall s v b =
-    unless query.Refused (firstRefusal (queryConditions s v)) s v (record { answer = query.Says b; state = s; events = v; ops = []; wakes = noWakes })
+    unless query.Refused (firstRefusal (queryConditions s v)) s v (record { answer = query.Says b; state = s; events = v; ops = []; wakes = noWakes; copied = [] })
 
 unfoldable pub stalledCall : State → Events → ℕ → Bool → Outcome QueryAnswer
 stalledCall s v e incoming = queryCall s v (stalledb s e incoming)

@@ -4,7 +4,7 @@ ghost use Prim.Native.Nat.{_+_, _≤_};
 ghost use lib.ListN.{length};
 ghost use Rattle.ops.specs.Ops.{records};
 ghost use Rattle.ops.specs.Wrote.{Wrote};
-ghost use Rattle.regs_device.specs.Room.{busResetOps};
+ghost use Rattle.regs_device.specs.Device.{busResetOps};
 ghost use Rattle.bus_reset.specs.Reset.{controlReset, busResetState};
 use state::State;
 
@@ -34,15 +34,11 @@ pub fn control_reset(state: State) -> State
     s
 }
 
-// Protocol layer, endpoints, address and control transfer start over.
-pub fn bus_reset(ops: &mut [u32], at: usize, state: State) -> Reset
-    requires { ⌜ at + records 83 ≤ length (now ops) ⌝ }
-    ensures state { λ r. ⌜ r .state ≡ busResetState state ⌝ }
-    ensures list { λ r. ⌜ Wrote (now (ops .entry)) at (busResetOps (state .«ep0_address»)) (r .end) (now (ops .exit)) ⌝ }
+// What a bus reset leaves of the state.
+pub fn reset_state(state: State) -> State
+    ensures { λ r. ⌜ r ≡ busResetState state ⌝ }
 {
     let mut s = state;
-    let a = regs_device::protocol_reset(ops, at, s.ep0_address);
-    let end = regs_link::link_power_allow(ops, a, false);
     let generation = std::num::wrapping_add_u32(s.control_generation, 1);
     let mut i: usize = 0;
     while i < 16 {
@@ -58,5 +54,16 @@ pub fn bus_reset(ops: &mut [u32], at: usize, state: State) -> Reset
     s.has_address = false; // one that waits for its status stage
     s.in_last = false;
     s.wake = 65535;
+    s
+}
+
+// Protocol layer, endpoints, address and control transfer start over.
+pub fn bus_reset(ops: &mut [u32], at: usize, state: State) -> Reset
+    requires { ⌜ at + records 83 ≤ length (now ops) ⌝ }
+    ensures state { λ r. ⌜ r .state ≡ busResetState state ⌝ }
+    ensures list { λ r. ⌜ Wrote (now (ops .entry)) at (busResetOps (state .«ep0_address»)) (r .end) (now (ops .exit)) ⌝ }
+{
+    let end = regs_device::bus_reset(ops, at, state.ep0_address);
+    let s = reset_state(state);
     Reset { state: s, end: end }
 }

@@ -60,7 +60,7 @@ startConditions s v d size = turnOf (soundb s v && driverSoundb d) (s .awaited .
 unfoldable pub startCall : State → Events → Driver → ℕ → Outcome StartAnswer
 startCall s v d size =
     unless start.Refused (firstRefusal (startConditions s v d size)) s v
-    (record { answer = start.Started; state = startedState s d; events = record { events = power }; ops = []; wakes = noWakes })
+    (record { answer = start.Started; state = startedState s d; events = record { events = power }; ops = []; wakes = noWakes; copied = [] })
 
 -- the number of an answer: 0 for a driver started, else the refusal's
 abbrev pub startNumber : StartAnswer → ℕ

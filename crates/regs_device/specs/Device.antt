@@ -8,6 +8,7 @@ use Rattle.ops.specs.Sequence.{upTo}
 use Rattle.ops.specs.Ops.{Op, write, modify, wait, _≔_}
 use Rattle.regs_endpoint.specs.Endpoint.{clearOps}
 use Rattle.regs_control.specs.Control.{ep0TxClearOps, ep0RxReadyOps, addressOps}
+use Rattle.regs_link.specs.Link.{initOps, linkPowerAllowOps}
 
 -- resets the protocol and the link layer, with the link held down meanwhile
 abbrev pub shutdownOps : List Op
@@ -56,3 +57,10 @@ ep0MemoryOps ep0 =
 abbrev pub protocolResetOps : ℕ → List Op
 protocolResetOps ep0 =
     protocolOps ++ (upTo clearBoth 7 ++ (ep0MemoryOps ep0 ++ (ep0TxClearOps ++ (ep0RxReadyOps ++ addressOps 0))))
+
+-- a bus reset: protocol_reset, and no link power management
+abbrev pub busResetOps : ℕ → List Op
+busResetOps ep0 = protocolResetOps ep0 ++ linkPowerAllowOps false
+
+abbrev pub powerOnOps : ℕ → ℕ → List Op
+powerOnOps revision ep0 = initOps revision ++ busResetOps ep0

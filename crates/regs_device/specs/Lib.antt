@@ -1,4 +1,2 @@
 pub mod Device
 pub mod DeviceLaws
-pub mod Room
-pub mod RoomLaws

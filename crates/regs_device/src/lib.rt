@@ -4,12 +4,13 @@ ghost use lib.ListN.{length};
 ghost use Rattle.ops.specs.Ops.{records};
 ghost use Rattle.ops.specs.Sequence.{upTo};
 ghost use Rattle.ops.specs.Wrote.{Wrote};
-ghost use Rattle.regs_device.specs.Device.{shutdownOps, protocolOps, clearBoth, ep0MemoryOps, protocolResetOps};
+ghost use Rattle.regs_device.specs.Device.{shutdownOps, protocolOps, clearBoth, ep0MemoryOps, protocolResetOps, busResetOps};
 use ops::numbers::*;
 use regs_control::ep0_rx_ready;
 use regs_control::ep0_tx_clear;
 use regs_control::set_address;
 use regs_endpoint::clear;
+use regs_link::link_power_allow;
 
 // Leaves the bus: the protocol and the link layer are reset, and the link is held down meanwhile.
 pub fn shutdown(ops: &mut [u32], at: usize) -> usize
@@ -95,4 +96,13 @@ pub fn protocol_reset(ops: &mut [u32], at: usize, ep0: u32) -> usize
     let d = ep0_tx_clear(ops, c);
     let e = ep0_rx_ready(ops, d);
     set_address(ops, e, 0)
+}
+
+// The registers of a bus reset: the host's requests to enter U1 and U2 are refused behind it.
+pub fn bus_reset(ops: &mut [u32], at: usize, ep0: u32) -> usize
+    requires { ⌜ at + records 83 ≤ length (now ops) ⌝ }
+    ensures { λ r. ⌜ Wrote (now (ops .entry)) at (busResetOps ep0) r (now (ops .exit)) ⌝ }
+{
+    let a = protocol_reset(ops, at, ep0);
+    link_power_allow(ops, a, false)
 }

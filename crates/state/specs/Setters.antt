@@ -1,7 +1,7 @@
 -- The state by groups of fields, and with one group changed. Only here are all fields listed.
 -- Assumes nothing.
 use Prim.Native.Nat.{ℕ}
-use mathlib.Core.Bool.{Bool, false}
+use mathlib.Core.Bool.{Bool, true, false}
 use mathlib.Core.List.{List}
 use lib.ListN.{set}
 use Rattle.state.specs.declared.Setup.{Setup}
@@ -103,6 +103,48 @@ unasked s =
       sequence = s .«tx_seq»;
       has = s .«has_address»;
       address = s .address;
+    })
+
+-- a SETUP waits with its bytes
+abbrev pub withSetup : State → Setup → State
+withSetup s bytes =
+    withControl s
+    (record {
+      waits = true;
+      setup = bytes;
+      generation = s .«control_generation»;
+      last = s .«in_last»;
+      sequence = s .«tx_seq»;
+      has = s .«has_address»;
+      address = s .address;
+    })
+
+-- the sequence that an EP0 IN report gave
+abbrev pub withSequence : State → ℕ → State
+withSequence s q =
+    withControl s
+    (record {
+      waits = s .«has_setup»;
+      setup = s .setup;
+      generation = s .«control_generation»;
+      last = s .«in_last»;
+      sequence = q;
+      has = s .«has_address»;
+      address = s .address;
+    })
+
+-- an IN stage: whether its packet is the last, and the address that waits for the status stage, if one does
+abbrev pub withStage : State → Bool → Bool → ℕ → State
+withStage s last has address =
+    withControl s
+    (record {
+      waits = s .«has_setup»;
+      setup = s .setup;
+      generation = s .«control_generation»;
+      last = last;
+      sequence = s .«tx_seq»;
+      has = has;
+      address = address;
     })
 
 -- the device off; revision and EP0's memory stay

@@ -112,6 +112,9 @@ module _ {A : Type 0} (refused : Refusal → A) (c : Check) (s : State) (v : Eve
   pub call-wakes : unless refused c s v o .wakes ≡ orElse c (λ r. noWakes) (o .wakes)
   call-wakes = or-part {B = Outcome A} (λ u. u .wakes) c (λ r. refusal (refused r) s v) o
 
+  pub call-copied : unless refused c s v o .copied ≡ orElse c (λ r. []) (o .copied)
+  call-copied = or-part {B = Outcome A} (λ u. u .copied) c (λ r. refusal (refused r) s v) o
+
   -- of one that is refused, and of one that isn't
   pub parts-refused : (r : Refusal) → c ≡ Refused r
       → (refused r ≡ unless refused c s v o .answer) × ((s ≡ unless refused c s v o .state) × (([] ≡ unless refused c s v o .ops) × (noWakes ≡ unless refused c s v o .wakes)))
@@ -122,6 +125,14 @@ module _ {A : Type 0} (refused : Refusal → A) (c : Check) (s : State) (v : Eve
       → (o .answer ≡ unless refused c s v o .answer) × ((o .state ≡ unless refused c s v o .state) × ((o .ops ≡ unless refused c s v o .ops) × (o .wakes ≡ unless refused c s v o .wakes)))
   unfolding orElse
   parts-made e = rw e (refl, (refl, (refl, refl)))
+
+  pub copied-refused : (r : Refusal) → c ≡ Refused r → [] ≡ unless refused c s v o .copied
+  unfolding orElse
+  copied-refused r e = rw e
+
+  pub copied-made : c ≡ Fits → o .copied ≡ unless refused c s v o .copied
+  unfolding orElse
+  copied-made e = rw e
 
 -- A call on one endpoint looks at what stands in its place. One without a slot there is refused by 7, or what stands
 -- there is left as it was.

@@ -1,4 +1,3 @@
-pub mod CompletingLaws
 pub mod TallyLaws
 pub mod EventsLaws
 pub mod FaultLaws

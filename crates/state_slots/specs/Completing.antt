@@ -39,6 +39,10 @@ completedSlot x = cond (busyb (x .phase)) (doneSlot x) x
 abbrev pub completedWake : ℕ → Slot → ℕ → ℕ
 completedWake i x wake = cond (busyb (x .phase)) (addSlot wake (waiterOf i)) wake
 
+-- and the state where the slot is x by now
+abbrev pub completeAs : State → ℕ → Slot → State
+completeAs s i x = withWake (withSlot s i (completedSlot x)) (completedWake i x (s .wake))
+
 -- whom the end of an interrupt wakes: the bus where events are pending, and the slots collected
 abbrev pub collected : Events → ℕ → Wakes
 collected v wake = record { bus = not (eqb (v .events) 0); slots = wake }

@@ -5,3 +5,4 @@ pub mod Tally
 pub mod Waking
 pub mod WakingLaws
 pub mod Completing
+pub mod CompletingLaws

@@ -1,5 +1,5 @@
 // One line of a script: its call is made, and its records and answer are printed.
-use tool_scripts::Word;
+use tool_words::Word;
 use world::World;
 
 // Each group of words has a crate of its own.
@@ -17,6 +17,7 @@ pub fn call(list: &mut [u32; 640], world: World, line: &[u8]) -> World {
         Word::Take | Word::Abandon => tool_calls_finish::call(list, world, word, line),
         Word::Report => tool_calls_report::report(list, world, line),
         Word::Show => show(world),
+        _ => tool_calls_interrupt::call(list, world, word, line),
     }
 }
 

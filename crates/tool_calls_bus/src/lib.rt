@@ -1,7 +1,7 @@
 // Events, and a bus reset by itself.
 use bus_events::PollAnswer;
 use bus_events::RaiseAnswer;
-use tool_scripts::Word;
+use tool_words::Word;
 use world::World;
 
 // A word of another group is unfit here.

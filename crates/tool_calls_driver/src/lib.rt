@@ -3,7 +3,7 @@ mod request;
 
 use driver_allocate::AllocateAnswer;
 use driver_allocate::NewAnswer;
-use tool_scripts::Word;
+use tool_words::Word;
 use world::World;
 
 // A word of another group is unfit here.

@@ -1,5 +1,5 @@
 // A transfer taken, or given up.
-use tool_scripts::Word;
+use tool_words::Word;
 use transfer_abandon::AbandonAnswer;
 use transfer_take::TakeAnswer;
 use world::World;

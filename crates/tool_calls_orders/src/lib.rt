@@ -1,7 +1,7 @@
 // The orders of an endpoint.
 use bus_endpoint::OrderAnswer;
 use bus_order::OrderResult;
-use tool_scripts::Word;
+use tool_words::Word;
 use world::World;
 
 // A word of another group is unfit here.

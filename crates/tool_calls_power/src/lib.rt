@@ -1,7 +1,7 @@
 // The power, on and off.
 use bus_power::PowerAnswer;
 use bus_power::PowerResult;
-use tool_scripts::Word;
+use tool_words::Word;
 use world::World;
 
 // A word of another group is unfit here.

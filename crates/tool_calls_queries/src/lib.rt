@@ -1,7 +1,7 @@
 // What can be asked of an endpoint.
 use bus_query::QueryAnswer;
 use bus_query::QueryResult;
-use tool_scripts::Word;
+use tool_words::Word;
 use world::World;
 
 // A word of another group is unfit here.

@@ -8,9 +8,10 @@ use lib.ListN.{take, drop}
 use Rattle.tool_lines.specs.Line.{tab, fields}
 use Rattle.tool_lines.specs.Search.{seek}
 use Rattle.tool_lines.specs.FieldsLaws.{first-word}
-use Rattle.tool_scripts.specs.declared.Meant.{Meant}
-use Rattle.tool_scripts.specs.declared.Word.the-variants.{Unfit}
-use Rattle.tool_scripts.specs.Script.{meaningOf, numbersFit, readCall}
+use Rattle.tool_words.specs.declared.Meant.{Meant}
+use Rattle.tool_words.specs.declared.Word.the-variants.{Unfit}
+use Rattle.tool_words.specs.Words.{meaningOf}
+use Rattle.tool_scripts.specs.Script.{numbersFit, readCall}
 
 pub call-told : (line : List ℕ) (end : ℕ) (meant : Meant) (fit : Bool) → end ≡ seek line 0 tab → meant ≡ meaningOf (take (end - 0) line) →
     fit ≡ numbersFit (meant .most) (drop 1 (fields line)) → cond fit (meant .call) Unfit ≡ readCall line

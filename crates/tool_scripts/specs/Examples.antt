@@ -5,9 +5,10 @@ use Prim.Native.String.{String}
 use mathlib.Core.List.{List, [], _∷_, map}
 use mathlib.Core.Path.{_≡_, refl}
 use Rattle.tool_lines.specs.Line.{fields, decimal, numberb}
-use Rattle.tool_scripts.specs.declared.Word.{Word}
-use Rattle.tool_scripts.specs.declared.Word.the-variants.{Unfit, Driver, Allocate, Start, On, Off, Enable, Stall, Stalled, Enabled, Raise, Poll, Reset, Begin, Take, Abandon, Report, Show}
-use Rattle.tool_scripts.specs.Script.{bytes, numberAt, numbersFit, readCall}
+use Rattle.tool_words.specs.declared.Word.{Word}
+use Rattle.tool_words.specs.declared.Word.the-variants.{Unfit, Driver, Allocate, Start, On, Off, Enable, Stall, Stalled, Enabled, Raise, Poll, Reset, Begin, Take, Abandon, Report, Show}
+use Rattle.tool_words.specs.Words.{bytes}
+use Rattle.tool_scripts.specs.Script.{numberAt, numbersFit, readCall}
 
 infix 70 _says_
 pub record Example : Type 0 where

@@ -1,6 +1,4 @@
 pub mod Script
-pub mod Rows
-pub mod RowsLaws
 pub mod Numbers
 pub mod NumbersLaws
 pub mod Calls

@@ -5,79 +5,10 @@ ghost use lib.Dec.{ltb};
 ghost use lib.ListN.{drop};
 ghost use Rattle.tool_lines.specs.Line.{fields};
 ghost use Rattle.tool_lines.specs.Fields.{rest};
-ghost use Rattle.tool_scripts.specs.Rows.{Picked};
-ghost use Rattle.tool_scripts.specs.Script.{_taking_, meaningOf, numberAt, heldTo, numbersFit, readCall};
+ghost use Rattle.tool_scripts.specs.Script.{numberAt, heldTo, numbersFit, readCall};
+use tool_words::Word;
 
 const TAB: u8 = 9;
-
-// The calls that a script may ask for; a line that can't be read is unfit.
-pub enum Word {
-    Unfit,
-    Driver,
-    Allocate,
-    Start,
-    On,
-    Off,
-    Enable,
-    Stall,
-    Stalled,
-    Enabled,
-    Raise,
-    Poll,
-    Reset,
-    Begin,
-    Take,
-    Abandon,
-    Report,
-    Show,
-}
-
-// What a word stands for: a call, and how many numbers it takes at most.
-struct Meant {
-    call: Word,
-    most: usize,
-}
-
-// The call where a line's word is `name`, else what was found before.
-fn pick(found: Meant, word: &[u8], name: &[u8], call: Word, most: usize) -> Meant
-    ensures { λ r. ⌜ Picked (now (word .entry)) (now (name .entry)) (call taking most) found r ⌝ }
-{
-    let same = check::same(word, name);
-    if same {
-        Meant {
-            call: call,
-            most: most,
-        }
-    } else {
-        found
-    }
-}
-
-fn meaning(word: &[u8]) -> Meant
-    ensures { λ r. ⌜ r ≡ meaningOf (now (word .entry)) ⌝ }
-{
-    let none = Meant {
-        call: Word::Unfit,
-        most: 0,
-    };
-    let a = pick(none, word, b"state", Word::Show, 0);
-    let b = pick(a, word, b"report", Word::Report, 4);
-    let c = pick(b, word, b"abandon", Word::Abandon, 2);
-    let d = pick(c, word, b"take", Word::Take, 2);
-    let e = pick(d, word, b"begin", Word::Begin, 5);
-    let f = pick(e, word, b"reset", Word::Reset, 0);
-    let g = pick(f, word, b"poll", Word::Poll, 0);
-    let h = pick(g, word, b"raise", Word::Raise, 1);
-    let i = pick(h, word, b"enabled", Word::Enabled, 2);
-    let j = pick(i, word, b"stalled", Word::Stalled, 2);
-    let k = pick(j, word, b"stall", Word::Stall, 3);
-    let l = pick(k, word, b"enable", Word::Enable, 3);
-    let m = pick(l, word, b"off", Word::Off, 0);
-    let n = pick(m, word, b"on", Word::On, 1);
-    let o = pick(n, word, b"start", Word::Start, 1);
-    let p = pick(o, word, b"allocate", Word::Allocate, 10);
-    pick(p, word, b"driver", Word::Driver, 2)
-}
 
 // Where the field behind the word begins.
 fn behind_word(line: &[u8]) -> usize
@@ -112,7 +43,7 @@ pub fn read_call(line: &[u8]) -> Word
     ensures { λ r. ⌜ r ≡ readCall (now (line .entry)) ⌝ }
 {
     let end = tool_lines::first(line, 0, TAB);
-    let meant = meaning(&line[0..end]);
+    let meant = tool_words::meaning(&line[0..end]);
     let call = meant.call;
     let fit = numbers_fit(line, meant.most);
     if fit { call } else { Word::Unfit }

@@ -46,6 +46,7 @@ abandonCall room s v e incoming =
       events = v;
       ops = abortBusyOps e incoming (busyb (slotOf s e incoming .phase));
       wakes = noWakes;
+      copied = [];
     })
 
 -- the numbers of an answer: a refusal's, or 0 and the microseconds that are due

@@ -2,7 +2,7 @@
 -- Assumes nothing.
 use Prim.Native.Nat.{ℕ}
 use mathlib.Core.Bool.{Bool}
-use mathlib.Core.List.{List, _++_}
+use mathlib.Core.List.{List, [], _++_}
 use Rattle.ops.specs.Ops.{Op}
 use Rattle.state.specs.declared.Slot.{Slot}
 use Rattle.state.specs.declared.State.{State}
@@ -41,7 +41,7 @@ begunOps s e incoming p = windowsOps (inHandState s e incoming p) ++ queueOps (l
 unfoldable pub beginCall : ℕ → State → Events → ℕ → Bool → Piece → Bool → Bool → Outcome BeginAnswer
 beginCall room s v e incoming p long unfit =
     unless begin.Refused (firstRefusal (beginConditions room s v e incoming p long unfit)) s v
-    (record { answer = begin.Begun; state = begunState s e incoming p; events = v; ops = begunOps s e incoming p; wakes = noWakes })
+    (record { answer = begin.Begun; state = begunState s e incoming p; events = v; ops = begunOps s e incoming p; wakes = noWakes; copied = [] })
 
 -- the number of an answer: 0 for a transfer begun, else the refusal's
 abbrev pub beginNumber : BeginAnswer → ℕ

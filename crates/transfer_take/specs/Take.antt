@@ -58,6 +58,7 @@ takeCall s v e incoming unfit most =
       events = v;
       ops = [];
       wakes = noWakes;
+      copied = [];
     })
 
 -- the numbers of an answer: a refusal's; or 0, whether it is done, and then its bytes

@@ -2,7 +2,7 @@
 use mathlib.Core.Bool.{cond}
 use mathlib.Core.Path.{_≡_}
 use denote.Ref.{now}
-use Rattle.tool_scripts.specs.declared.Word.the-variants.{Unfit}
+use Rattle.tool_words.specs.declared.Word.the-variants.{Unfit}
 use Rattle.tool_scripts.specs.Script.{readCall}
 use Rattle.tool_scripts.specs.NumbersLaws.{word-within}
 use Rattle.tool_scripts.specs.Calls.{call-told}

@@ -1,0 +1,1 @@
+// No code: specs/ has what the stages of control transfers keep.

@@ -1,0 +1,2 @@
+pub mod Ep0
+pub mod Ep0Laws

@@ -1,0 +1,2 @@
+pub mod Interrupt
+pub mod InterruptLaws

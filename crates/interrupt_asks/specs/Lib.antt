@@ -1,0 +1,4 @@
+pub mod Asking
+pub mod AskingLaws
+pub mod Settled
+pub mod SettledLaws

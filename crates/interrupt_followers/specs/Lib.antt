@@ -1,0 +1,2 @@
+pub mod Followers
+pub mod FollowersLaws

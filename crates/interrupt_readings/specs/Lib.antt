@@ -1,0 +1,4 @@
+pub mod Matched
+pub mod MatchedLaws
+pub mod Heard
+pub mod HeardLaws
