@@ -37,6 +37,10 @@ typedef struct { Answer answer; Events events; Wakes wakes; } RaiseResult;
 typedef struct { Query answer; Events events; Wakes wakes; } PollResult;
 typedef struct { Query answer; Wakes wakes; } QueryResult;
 
+typedef struct { State state; Events events; Answer answer; uint64_t end; Wakes wakes; } InterruptResult;
+typedef struct { uint8_t kind; _Alignas(4) uint8_t bytes[16]; } Reading; /* what it holds begins at a multiple of 4 */
+typedef struct { uint8_t setup, status, transfer; uint32_t endpoint; uint8_t incoming, others[4]; } TransferStatus;
+
 /* A call as the module has it. It doesn't compile where a struct here has another size than there. */
 #define CALL(name, result, ...) \
     _Static_assert(sizeof(result) == name##_result, "the layout of what " #name " returns"); \
@@ -71,6 +75,9 @@ STATE_CALL(bus_power__power_off, Result, const List *, const State *, const Even
 STATE_CALL(bus_reset__bus_reset, Ended, const List *, uint64_t at, const State *);
 CALL(bus_events__raise, RaiseResult, const State *, const Events *, uint8_t event);
 CALL(bus_events__poll, PollResult, const State *, const Events *);
+STATE_CALL(interrupt__interrupt, InterruptResult, const List *, const State *, const Events *);
+CALL(interrupt__answer, InterruptResult, const List *, const State *, const Events *, const Reading *);
+_Static_assert(sizeof(Reading) == interrupt__answer_arg4, "the layout of a reading");
 _Bool state_sound__sound(const State *, const Events *);
 
 enum { BULK = 2, RESET = 1, POWER = 8, REVISION = 3, WIDTH = 5 };
@@ -131,6 +138,35 @@ static State begun(State s, int index, int incoming, uint32_t length) {
     return r.state;
 }
 
+enum { LINK_FLAGS, LINK_STATUS, TRANSFER_STATUS = 4, SETUP_BYTES, CHAIN_PACKETS = 8, LAST_LENGTH };
+enum { AWAITS = 1, ENDED = 2 };
+
+static Reading numbered(int kind, uint32_t number) {
+    Reading reading = {kind, {0}};
+    memcpy(reading.bytes, &number, sizeof number);
+    return reading;
+}
+
+/* A whole interrupt in which the link has nothing to say: the transfer status, then what follows it. */
+static void converse(State s, TransferStatus status, int followers, const Reading *follows, int wanted, const char *row) {
+    static InterruptResult r[6];
+    Reading flags = {LINK_FLAGS, {0}}, link = {LINK_STATUS, {0, 1, 0}}, transfer = {TRANSFER_STATUS, {0}};
+    memcpy(transfer.bytes, &status, sizeof status);
+    bench_on();
+    interrupt__interrupt(&r[0], &list, &s, &events);
+    interrupt__answer(&r[1], &list, &r[0].state, &r[0].events, &flags);
+    interrupt__answer(&r[2], &list, &r[1].state, &r[1].events, &link);
+    interrupt__answer(&r[3], &list, &r[2].state, &r[2].events, &transfer);
+    for (int i = 0; i < followers; i++) interrupt__answer(&r[4 + i], &list, &r[3 + i].state, &r[3 + i].events, &follows[i]);
+    bench_off();
+    uint64_t end = 0;
+    for (int i = 0; i < 4 + followers; i++) {
+        want(r[i].answer.kind == (i < 3 + followers ? AWAITS : ENDED), row);
+        end += r[i].end;
+    }
+    want_records(end, wanted, row);
+}
+
 int side_run(const char *row) {
     static Result r;
     static Ended ended;
@@ -163,6 +199,20 @@ int side_run(const char *row) {
         transfer_report__report(&ended, &list, 0, &s, 1, 0, on ? 255 : 8, 1024);
         bench_off();
         want_records(ended.end, on ? 6 : 1, row);
+    } else if (is(row, "irq_in_on") || is(row, "irq_in_done")) {
+        int on = is(row, "irq_in_on");
+        s = begun(s, 1, 1, on ? LONG : SHORT);
+        converse(s, (TransferStatus){0, 0, 1, 1, 1, {0}}, 0, NULL, on ? 6 : 1, row);
+    } else if (is(row, "irq_out_on") || is(row, "irq_out_done")) {
+        int on = is(row, "irq_out_on");
+        Reading follows[2] = {numbered(CHAIN_PACKETS, on ? 255 : 8), numbered(LAST_LENGTH, 1024)};
+        s = begun(s, 1, 0, on ? LONG : SHORT);
+        converse(s, (TransferStatus){0, 0, 1, 1, 0, {0}}, 2, follows, on ? 6 : 1, row);
+    } else if (is(row, "irq_setup")) {
+        Reading bytes = {SETUP_BYTES, {0x80, 6, 0, 1, 0, 0, 18, 0}};
+        converse(s, (TransferStatus){1, 0, 0, 0, 0, {0}}, 1, &bytes, 3, row);
+    } else if (is(row, "irq_status")) {
+        converse(s, (TransferStatus){0, 1, 0, 0, 0, {0}}, 0, NULL, 4, row);
     } else if (is(row, "take_busy") || is(row, "take_done")) {
         static TakeResult t;
         int done = is(row, "take_done");

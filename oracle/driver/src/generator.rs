@@ -99,17 +99,43 @@ pub fn line(random: &mut Random, at: usize) -> String {
     format!("{direction}\t{endpoint}\t{size}\t{own}\t{address}\t{length}\t{flag}")
 }
 
-/// The words of a script that has only transfers, orders, power and events.
-const FEWER: [&str; 17] = [
-    "driver", "allocate", "start", "on", "off", "enable", "stall", "stalled", "enabled", "raise", "poll", "reset",
-    "begin", "take", "abandon", "report", "state",
-];
+/// Which parts a script has beside transfers, orders, power and events: a sum of the numbers below.
+#[derive(Clone, Copy)]
+pub struct Parts(pub u64);
+
+impl Parts {
+    /// Interrupts by their readings.
+    const INTERRUPTS: u64 = 1;
+    /// The calls of EP0.
+    const CONTROL: u64 = 2;
+    /// Sends and receives.
+    const MOVES: u64 = 4;
+    const WAKEUP: u64 = 8;
+    pub const ALL: Self = Self(15);
+
+    fn has(self, part: u64) -> bool {
+        self.0 & part != 0
+    }
+
+    /// Whether a script has this word.
+    fn word(self, word: &str) -> bool {
+        match word {
+            "wakeup" => self.has(Self::WAKEUP),
+            "move" | "next" => self.has(Self::MOVES),
+            "setup" | "data_out" | "take_out" | "data_in" | "accept" | "accept_address" | "take_in" | "reject"
+            | "generation" => self.has(Self::CONTROL),
+            "interrupt" => self.has(Self::INTERRUPTS),
+            _ if readings::words().contains(&word) => self.has(Self::INTERRUPTS),
+            _ => true,
+        }
+    }
+}
 
 /// A line that can't be read, where it has numbers for one reason alone.
-fn unfit(random: &mut Random, all: bool) -> Vec<u8> {
+fn unfit(random: &mut Random, parts: Parts) -> Vec<u8> {
     let (word, largest) = loop {
         let found = WORDS[random.below(WORDS.len())];
-        if all || FEWER.contains(&found.0) {
+        if parts.word(found.0) {
             break found;
         }
     };
@@ -203,15 +229,19 @@ struct Script {
     lines: Vec<Vec<u8>>,
     /// Where the driver's memory lies.
     memory: (usize, usize),
-    all: bool,
+    parts: Parts,
     /// For lines that can't be read, and for the writing of those that can.
     slips: Random,
 }
 
 impl Script {
+    /// A line of a part that the script hasn't is left out.
     fn push(&mut self, line: String) {
+        if !self.parts.word(line.split('\t').next().unwrap()) {
+            return;
+        }
         if self.slips.one_in(200) {
-            let unfit = unfit(&mut self.slips, self.all);
+            let unfit = unfit(&mut self.slips, self.parts);
             self.run(unfit);
         }
         let line = otherwise(&mut self.slips, line);
@@ -224,11 +254,10 @@ impl Script {
     }
 }
 
-/// Calls on one driver after another. Call once in a program, with RAM mapped. Without `all`,
-/// only transfers, orders, power and events.
-pub fn calls(random: &mut Random, count: usize, all: bool) -> Vec<Vec<u8>> {
+/// Calls on one driver after another. Call once in a program, with RAM mapped.
+pub fn calls(random: &mut Random, count: usize, parts: Parts) -> Vec<Vec<u8>> {
     let slips = Random::new(random.next());
-    let mut script = Script { calls: Calls::default(), lines: Vec::new(), memory: (0, 0), all, slips };
+    let mut script = Script { calls: Calls::default(), lines: Vec::new(), memory: (0, 0), parts, slips };
     while script.lines.len() < count {
         let some = 20 + random.below(400);
         life(random, some, &mut script);
@@ -601,7 +630,8 @@ fn tight(random: &mut Random, script: &mut Script) {
 /// A driver with endpoints, then `count` calls with orders and power among transfers on several
 /// slots; at its end it is off.
 fn life(random: &mut Random, count: usize, script: &mut Script) {
-    let all = script.all;
+    let parts = script.parts;
+    let (interrupts, controls) = (parts.has(Parts::INTERRUPTS), parts.has(Parts::CONTROL));
     if script.lines.is_empty() {
         unstarted(random, script);
     }
@@ -669,7 +699,7 @@ fn life(random: &mut Random, count: usize, script: &mut Script) {
     if random.one_in(2) {
         script.push("state".into());
     }
-    if all && !random.one_in(3) {
+    if controls && !random.one_in(3) {
         // So that it wraps.
         let near = [0, u32::MAX as usize, u32::MAX as usize - 1, u32::MAX as usize - 5, 1 << 31];
         script.push(format!("generation\t{}", random.one_of(&near)));
@@ -694,11 +724,11 @@ fn life(random: &mut Random, count: usize, script: &mut Script) {
         if !powered && random.one_in(4) {
             orders(random, incoming, endpoint, script);
         }
-        if all && !powered && random.one_in(2) {
+        if controls && !powered && random.one_in(2) {
             control(random, script);
         }
         // Power comes back with the generation of a stage that was dropped.
-        let stage = script.calls.stage_in_hand(random.one_in(2)).filter(|_| all && !powered && random.one_in(3));
+        let stage = script.calls.stage_in_hand(random.one_in(2)).filter(|_| controls && !powered && random.one_in(3));
         if let Some((generation, _)) = stage {
             script.push(format!("generation\t{}", generation.wrapping_sub(1)));
             script.push(format!("on\t{}", a_revision(random)));
@@ -717,13 +747,13 @@ fn life(random: &mut Random, count: usize, script: &mut Script) {
         if !powered && random.one_in(40) {
             script.push(refused_driver(random));
         }
-        if all {
+        if parts.0 != 0 {
             match random.below(11) {
-                0 | 1 => {
+                0 | 1 if interrupts => {
                     conversation(random, &asked, &sizes, script);
                     continue;
                 }
-                8 if random.one_in(4) => {
+                8 if interrupts && random.one_in(4) => {
                     link_walk(random, script);
                     continue;
                 }
@@ -737,18 +767,18 @@ fn life(random: &mut Random, count: usize, script: &mut Script) {
                     orders(random, slot % 2, slot / 2, script);
                     continue;
                 }
-                2 | 6 => {
+                2 | 6 if controls => {
                     // Some after each other, before a reset ends the transfer.
                     for _ in 0..1 + random.below(4) {
                         control(random, script);
                     }
                     continue;
                 }
-                3..=5 if data => {
+                3..=5 if data && parts.has(Parts::MOVES) => {
                     moving(random, incoming, endpoint, size, script);
                     continue;
                 }
-                7 if random.one_in(6) => {
+                7 if parts.has(Parts::WAKEUP) && random.one_in(6) => {
                     script.push("wakeup".into());
                     continue;
                 }
@@ -845,11 +875,11 @@ fn life(random: &mut Random, count: usize, script: &mut Script) {
     match random.below(4) {
         0 if script.calls.powered() => script.push("reset".into()),
         0 => script.push(format!("on\t{}", a_revision(random))),
-        1 if all => {
+        1 if controls => {
             let generation = script.calls.control().1;
             script.push(format!("accept_address\t{generation}\t{}", 1 + random.below(127)));
         }
-        2 if all => link_walk(random, script),
+        2 if interrupts => link_walk(random, script),
         _ => {}
     }
     script.push("off".into());

@@ -1,6 +1,6 @@
 //! Holds a program of the port that reads scripts of calls against the Rust.
-//! Arguments: the port's program, a first seed, how many seeds, calls to a script, and 0 to leave
-//! out the kinds that calls_lines leaves out.
+//! Arguments: the port's program, a first seed, how many seeds, calls to a script, and the number
+//! of its parts that calls_lines takes.
 //! A script on which they differ is cut down to the lines that it takes.
 use std::io::{self, Write};
 use std::path::{Path, PathBuf};
