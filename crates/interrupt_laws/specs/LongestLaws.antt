@@ -15,7 +15,7 @@ use Rattle.state.specs.declared.Reading.the-variants as reading
 use Rattle.state.specs.declared.State.{State}
 use Rattle.state.specs.Setters.{withPower}
 use Rattle.state_sound.specs.Sound.{soundb}
-use Rattle.state_laws.specs.FaultLaws.{running, noEvents}
+use Rattle.state_sound.specs.FaultLaws.{running, noEvents}
 use Rattle.state_call.specs.Outcome.{orElse}
 use Rattle.interrupt_asks.specs.Settled.{settled}
 use Rattle.interrupt_transfer.specs.Transfers.{statusTurn}

@@ -31,7 +31,7 @@ use Rattle.state.specs.Refusals.{firstRefusal}
 use Rattle.state.specs.Setters.{limitOf, withAwaited}
 use Rattle.state_slots.specs.Slots.{slotOf}
 use Rattle.state_sound.specs.Sound.{soundb}
-use Rattle.state_laws.specs.FaultLaws.{running, noEvents}
+use Rattle.state_sound.specs.FaultLaws.{running, noEvents}
 use Rattle.state_call.specs.Outcome.{Outcome, orElse, refusal}
 use Rattle.state_call.specs.OutcomeLaws.{or-either}
 use Rattle.transfer_chain.specs.ChainsLaws.{queue-most}

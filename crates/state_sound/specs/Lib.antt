@@ -1,3 +1,4 @@
+pub mod FaultLaws
 pub mod Clauses
 pub mod Sound
 pub mod SoundLaws
