@@ -1,4 +1,5 @@
-// Endpoint 0's part of an interrupt (reference: `transfer_irq` and `ep0_irq` of device.rs).
+// Endpoint 0's part of an interrupt: its registers, and what becomes of its slots (reference: `transfer_irq` and `ep0_irq` of
+// device.rs).
 ghost use mathlib.Core.Path.{_≡_};
 ghost use mathlib.Core.Bool.{cond};
 ghost use mathlib.Core.List.{[]};
@@ -7,17 +8,12 @@ ghost use lib.ListN.{length as listLength};
 ghost use Rattle.ops.specs.Ops.{records};
 ghost use Rattle.ops.specs.Wrote.{Wrote};
 ghost use Rattle.regs_control.specs.Control.{addressOps};
-ghost use Rattle.control_report.specs.Ep0.{setupOps, setupReceived, statusOps, statusDone, receivedSlot, lengthOps, lengthReceived, statusFollows, sequenceOps, packetSent};
+ghost use Rattle.control_report.specs.Ep0.{setupOps, setupReceived, statusOps, receivedSlot, sequenceOps};
 use ops::numbers::*;
 use state::Setup;
 use state::Slot;
 use state::State;
 use state::Transfer;
-
-pub struct Staged {
-    pub state: State,
-    pub end: usize,
-}
 
 // A SETUP has come: both directions are cleared and its flag acknowledged, before its bytes are read.
 pub fn setup_flag(ops: &mut [u32], at: usize) -> usize
@@ -50,27 +46,19 @@ fn address_due(ops: &mut [u32], at: usize, has_address: bool, address: u8) -> us
     at
 }
 
-// The status stage: an address that waits takes hold, and the IN stage is done.
-pub fn status_stage(ops: &mut [u32], at: usize, state: State) -> Staged
+// The registers of a status stage: an address that waits takes hold.
+pub fn status_stage(ops: &mut [u32], at: usize, has_address: bool, address: u8) -> usize
     requires { ⌜ at + records 5 ≤ listLength (now ops) ⌝ }
-    ensures state { λ r. ⌜ r .state ≡ statusDone state ⌝ }
-    ensures list { λ r. ⌜ Wrote (now (ops .entry)) at (statusOps (state .«has_address») (state .address)) (r .end) (now (ops .exit)) ⌝ }
+    ensures { λ r. ⌜ Wrote (now (ops .entry)) at (statusOps «has_address» address) r (now (ops .exit)) ⌝ }
 {
-    let mut s = state;
     let a = regs_control::status_ack(ops, at, UDIF_STATUS);
-    let b = address_due(ops, a, s.has_address, s.address);
+    let b = address_due(ops, a, has_address, address);
     let c = regs_control::ep0_tx_clear(ops, b);
-    let end = regs_control::ep0_rx_ready(ops, c);
-    s.has_address = false;
-    let slot = s.endpoints[1];
-    let done = state_slots::completing::complete(1, slot, s.wake);
-    let y = done.slot;
-    s.endpoints[1] = y;
-    s.wake = done.wake;
-    Staged { state: s, end: end }
+    regs_control::ep0_rx_ready(ops, c)
 }
 
-fn received_slot(slot: Slot, length: u32) -> Slot
+// A packet of so many bytes has come in.
+pub fn received_slot(slot: Slot, length: u32) -> Slot
     ensures { λ r. ⌜ r ≡ receivedSlot length slot ⌝ }
 {
     let phase = slot.phase;
@@ -83,24 +71,8 @@ fn received_slot(slot: Slot, length: u32) -> Slot
     state_slots::completing::moved(slot, phase, received)
 }
 
-// A packet of so many bytes has come in: the OUT stage is done.
-pub fn length_received(ops: &mut [u32], at: usize, state: State, length: u32) -> Staged
-    requires { ⌜ at + records 1 ≤ listLength (now ops) ⌝ }
-    ensures state { λ r. ⌜ r .state ≡ lengthReceived state length ⌝ }
-    ensures list { λ r. ⌜ Wrote (now (ops .entry)) at lengthOps (r .end) (now (ops .exit)) ⌝ }
-{
-    let mut s = state;
-    let end = regs_control::ep0_rx_answer(ops, at, NRDY);
-    let slot = s.endpoints[0];
-    let received = received_slot(slot, length);
-    let done = state_slots::completing::complete(0, received, s.wake);
-    let y = done.slot;
-    s.endpoints[0] = y;
-    s.wake = done.wake;
-    Staged { state: s, end: end }
-}
-
-fn answer_packet(ops: &mut [u32], at: usize, follows: bool) -> usize
+// A packet has gone out: the status stage follows, or NRDY until the next packet is ready.
+pub fn answer_packet(ops: &mut [u32], at: usize, follows: bool) -> usize
     requires { ⌜ at + records 3 ≤ listLength (now ops) ⌝ }
     ensures { λ r. ⌜ Wrote (now (ops .entry)) at (sequenceOps follows) r (now (ops .exit)) ⌝ }
 {
@@ -109,26 +81,4 @@ fn answer_packet(ops: &mut [u32], at: usize, follows: bool) -> usize
         return regs_control::ep0_rx_ready(ops, a);
     }
     regs_control::ep0_tx_answer(ops, at, NRDY)
-}
-
-// A packet has gone out under a sequence number: the status stage follows, or the IN stage is done.
-pub fn packet_sent(ops: &mut [u32], at: usize, state: State, sequence: u8) -> Staged
-    requires { ⌜ at + records 3 ≤ listLength (now ops) ⌝ }
-    ensures state { λ r. ⌜ r .state ≡ packetSent state sequence ⌝ }
-    ensures list { λ r. ⌜ Wrote (now (ops .entry)) at (sequenceOps (statusFollows state)) (r .end) (now (ops .exit)) ⌝ }
-{
-    let mut s = state;
-    let slot = s.endpoints[1];
-    let phase = slot.phase;
-    let busy = state_slots::is_busy(phase);
-    let follows = s.in_last | !busy;
-    let end = answer_packet(ops, at, follows);
-    s.tx_seq = sequence;
-    if !follows {
-        let done = state_slots::completing::complete(1, slot, s.wake);
-        let y = done.slot;
-        s.endpoints[1] = y;
-        s.wake = done.wake;
-    }
-    Staged { state: s, end: end }
 }

@@ -25,7 +25,7 @@ use Rattle.interrupt_asks.specs.declared.InterruptAnswer.the-variants.{Refused}
 use Rattle.interrupt_asks.specs.Asking.{asked}
 use Rattle.interrupt_asks.specs.Settled.{settled}
 use Rattle.interrupt_transfer.specs.Transfers.{Turned}
-use Rattle.interrupt_readings.specs.Matched.{Matched, matchedAs, matchesb, readingOwn}
+use Rattle.interrupt_readings.specs.Matched.{Matched, matchedAs, matchesb}
 use Rattle.interrupt_readings.specs.Heard.{LinkHeard, heardLink}
 use Rattle.interrupt_followers.specs.Followers.{heardTransfer}
 
@@ -84,13 +84,3 @@ nextAwaiting s v m =
 abbrev pub answerSays : ℕ → State → Events → Reading → List ℕ
 answerSays room s v r =
     orElse (firstRefusal (answerConditions room s v r)) (λ q. refusalNumber q ∷ []) (0 ∷ awaitingNumber (nextAwaiting s v (matchedAs (s .awaited .next) r)) ∷ [])
-
--- the same of a list that is long enough and a sound state, for each half
-unfoldable pub linkOutcome : State → Events → Reading → Outcome InterruptAnswer
-linkOutcome s v r =
-    unless Refused (firstRefusal (readingOwn (s .awaited .next) r)) s v
-    (linkSettled s (heardLink (s .«ep0_address») (s .revision) (s .awaited) (linkBefore s v) (matchedAs (s .awaited .next) r)))
-
-unfoldable pub transferOutcome : State → Events → Reading → Outcome InterruptAnswer
-transferOutcome s v r =
-    unless Refused (firstRefusal (readingOwn (s .awaited .next) r)) s v (transferSettled v (heardTransfer s (matchedAs (s .awaited .next) r)))

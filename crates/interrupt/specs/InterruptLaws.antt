@@ -1,11 +1,11 @@
 -- An interrupt's calls by their ways out.
 -- Assumes nothing.
-use Prim.Native.Nat.{ℕ, _≤_, _<_}
-use mathlib.Core.Bool.{Bool, true, false, not, cond}
+use Prim.Native.Nat.{ℕ, _≤_}
+use mathlib.Core.Bool.{Bool, true, false, not, _||_, cond}
 use mathlib.Core.List.{List, [], _∷_, _++_}
-use mathlib.Core.Path.{_≡_, refl, subst, _∙_}
-use borrow.Author.Tests.{le-leb, lt-leb, ltb-false}
-use lib.Dec.{leb, ltb}
+use mathlib.Core.Path.{_≡_, refl, ap, subst, _∙_}
+use borrow.Author.Tests.{ltb-false, not-false}
+use lib.Dec.{leb}
 use Rattle.ops.specs.Ops.{listNumbers}
 use Rattle.ops.specs.Wrote.{Wrote}
 use Rattle.state.specs.declared.Awaiting.the-variants as awaiting
@@ -13,31 +13,38 @@ use Rattle.state.specs.declared.Awaited.{Awaited}
 use Rattle.state.specs.declared.Reading.{Reading}
 use Rattle.state.specs.declared.State.{State}
 use Rattle.state.specs.declared.Events.{Events}
-use Rattle.state.specs.declared.Check.{Check}
 use Rattle.state.specs.declared.Check.the-variants as check
 use Rattle.state.specs.declared.Refusal.{Refusal}
-use Rattle.state.specs.declared.Refusal.the-variants.{ListTooShort, Unsound}
 use Rattle.state.specs.Awaiting.{awaitingNumber, awaitingb}
 use Rattle.state.specs.Fresh.{nothingAwaited}
 use Rattle.state.specs.Numbers.{refusalNumber}
-use Rattle.state.specs.Refusals.{Condition, _if_, firstRefusal, FirstIs, here, later, Bound}
+use Rattle.state.specs.Refusals.{Condition, firstRefusal, FirstIs, here, later, Bound}
 use Rattle.state.specs.RefusalsLaws.{bound, refused-if, none-due, not-due}
 use Rattle.state.specs.Setters.{withLink}
 use Rattle.state_slots.specs.Waking.{noWakes}
 use Rattle.state_sound.specs.Sound.{soundb}
 use Rattle.state_call.specs.Outcome.{Outcome, orElse, refusal}
 use Rattle.state_call.specs.OutcomeLaws.{or-part}
+use Rattle.transfer_window.specs.Window.{inHandCount, windowOf}
+use Rattle.bus_reset.specs.Reset.{busResetState}
+use Rattle.control_report.specs.Ep0.{setupReceived}
+use Rattle.interrupt_link.specs.declared.LinkEffect.{LinkEffect}
 use Rattle.interrupt_asks.specs.declared.InterruptAnswer.{InterruptAnswer}
 use Rattle.interrupt_asks.specs.declared.InterruptAnswer.the-variants.{Refused, Awaits, Ended}
 use Rattle.interrupt_asks.specs.Settled.{settled, interruptNumbers}
 use Rattle.interrupt_asks.specs.SettledLaws.{settled-numbers}
-use Rattle.bus_reset.specs.Reset.{busResetState}
-use Rattle.interrupt_link.specs.declared.LinkEffect.{LinkEffect}
+use Rattle.interrupt_transfer.specs.declared.Sight.{Sight}
+use Rattle.interrupt_transfer.specs.declared.TransferEffect.{TransferEffect}
 use Rattle.interrupt_transfer.specs.Transfers.{Turned}
+use Rattle.interrupt_transfer.specs.Pieces.{sightOf, piecesOf, placed, afterPieces, turnedTo}
 use Rattle.interrupt_readings.specs.Matched.{Matched, matchedAs, readingOwn}
-use Rattle.interrupt_readings.specs.Heard.{LinkHeard, heardLink, linkTurned}
-use Rattle.interrupt_followers.specs.Followers.{heardTransfer, transferTurned}
-use Rattle.interrupt.specs.Interrupt.{firstAwaited, interruptConditions, interruptCall, interruptSays, answerConditions, linkBefore, linkFlagsOf, linkAfter, linkSettled, transferSettled, answered, answerCall, nextAwaiting, answerSays, linkOutcome, transferOutcome}
+use Rattle.interrupt_readings.specs.Heard.{LinkHeard, unheard, heardLink, linkTurned}
+use Rattle.interrupt_followers.specs.Followers.{heardTransfer}
+use Rattle.interrupt_followers.specs.Pieces.{heardPieces, piecesTurned}
+use Rattle.interrupt_hear.specs.Hear.{slotsHeard, heardSlot, BothHeard, linkBoth, transferBoth, heardBy}
+use Rattle.interrupt_pieces.specs.PiecesLaws.{placed-own, pieces-same}
+use Rattle.interrupt.specs.Interrupt.{firstAwaited, interruptConditions, interruptCall, interruptSays, answerConditions, linkBefore, linkFlagsOf, linkAfter, linkSettled, transferSettled, answered, answerCall, nextAwaiting, answerSays}
+use Rattle.interrupt.specs.Parts.{doorConditions, door, reacted, heardIn}
 
 -- Each refusal is given exactly where it is the first that is due, and none where none is.
 pub interrupt-bound : (room : ℕ) (s : State) (v : Events) → Bound (interruptConditions room s v) (firstRefusal (interruptConditions room s v))
@@ -46,16 +53,12 @@ interrupt-bound room s v = bound (interruptConditions room s v)
 pub answer-bound : (room : ℕ) (s : State) (v : Events) (r : Reading) → Bound (answerConditions room s v r) (firstRefusal (answerConditions room s v r))
 answer-bound room s v r = bound (answerConditions room s v r)
 
--- 10 and 26, before the reading is looked at
-abbrev doorConditions : ℕ → Bool → List Condition → List Condition
-doorConditions room good own = ListTooShort if ltb room listNumbers ∷ Unsound if not good ∷ own
-
-abbrev pub door : ℕ → Bool → Check
-door room good = firstRefusal (doorConditions room good [])
-
 -- a call that passes it was lent enough, and further conditions decide
 pub wide : (room : ℕ) (good : Bool) → door room good ≡ check.Fits → listNumbers ≤ room
 wide room good e = ltb-false room listNumbers (not-due (none-due (doorConditions room good []) e) .0)
+
+good : (room : ℕ) (sound : Bool) → door room sound ≡ check.Fits → sound ≡ true
+good room sound e = not-false sound (not-due (not-due (none-due (doorConditions room sound []) e) .1) .0)
 
 through : (room : ℕ) (good : Bool) (own : List Condition) → door room good ≡ check.Fits → firstRefusal (doorConditions room good own) ≡ firstRefusal own
 through room good own e =
@@ -80,42 +83,68 @@ module _ (room : ℕ) (s : State) (v : Events) (r : Reading) where
   unfolding answerCall orElse
   answer-refused q e = rw (stopped room (soundb s v) (readingOwn (s .awaited .next) r) q e) (refl, (refl, (refl, (refl, refl))))
 
-  pub answer-link : door room (soundb s v) ≡ check.Fits → awaitingNumber (s .awaited .next) ≤ 6 → linkOutcome s v r ≡ answerCall room s v r
-  unfolding answerCall linkOutcome
-  answer-link e h = rw (through room (soundb s v) (readingOwn (s .awaited .next) r) e, le-leb _ 6 h)
+  -- refused for the reading itself: nothing was written
+  pub reading-refused : (q : Refusal) → door room (soundb s v) ≡ check.Fits → firstRefusal (readingOwn (s .awaited .next) r) ≡ check.Refused q
+      → (Refused q ≡ answerCall room s v r .answer)
+      × ((s ≡ answerCall room s v r .state)
+      × ((v ≡ answerCall room s v r .events)
+      × (([] ≡ answerCall room s v r .ops) × ((noWakes ≡ answerCall room s v r .wakes) × (heardIn s v r .ops ≡ [])))))
+  unfolding answerCall orElse heardBy linkTurned piecesTurned
+  reading-refused q e h =
+      rw (through room (soundb s v) (readingOwn (s .awaited .next) r) e, h) (refl, (refl, (refl, (refl, (refl, go (piecesOf s _) (leb (awaitingNumber (s .awaited .next)) 6))))))
+    where
+      go : (f : TransferEffect) (b : Bool) → cond b (linkBoth f (unheard (s .awaited) (linkBefore s v))) (transferBoth (linkBefore s v) (turnedTo f (s .awaited) [])) .ops ≡ []
+      go f true = refl
+      go f false = refl
 
-  pub answer-transfer : door room (soundb s v) ≡ check.Fits → 6 < awaitingNumber (s .awaited .next) → transferOutcome s v r ≡ answerCall room s v r
-  unfolding answerCall transferOutcome
-  answer-transfer e h = rw (through room (soundb s v) (readingOwn (s .awaited .next) r) e, lt-leb _ 6 h)
+-- a reading of the link stores the pieces of the transfers back as they were
+link-reacted : (s : State) (i : ℕ) (l : LinkEffect) → reacted s i l (piecesOf s i) ≡ linkAfter s l
+link-reacted s i l = go (placed s i (piecesOf s i)) (l .resets) ∙ ap (λ t. withLink (cond (l .resets) (busResetState t) t) (linkFlagsOf l)) (placed-own s i)
+  where
+    go : (t : State) (b : Bool) → withLink (cond (b || false) (cond b (busResetState t) (setupReceived t (s .setup))) t) (linkFlagsOf l) ≡ withLink (cond b (busResetState t) t) (linkFlagsOf l)
+    go t true = refl
+    go t false = refl
 
-module _ (s : State) (v : Events) (r : Reading) where
-  abbrev pub heardNow : LinkHeard
-  heardNow = linkTurned (s .«ep0_address») (s .revision) (s .awaited) (linkBefore s v) (s .awaited .next) r
+-- one of the transfers leaves the link
+transfer-reacted : (s : State) (v : Events) (i : ℕ) (f : TransferEffect) → reacted s i (linkBefore s v) f ≡ afterPieces s i f
+transfer-reacted s v i f = go (f .received)
+  where
+    go : (b : Bool) → withLink (cond b (setupReceived (placed s i f) (f .setup)) (placed s i f)) (linkFlagsOf (linkBefore s v)) ≡ cond b (setupReceived (placed s i f) (f .setup)) (placed s i f)
+    go true = refl
+    go false = refl
 
-  abbrev pub turnedNow : Turned
-  turnedNow = transferTurned s (s .awaited .next) r
+-- the pieces stored back, and settled, are the call
+module _ (room : ℕ) (s : State) (v : Events) (r : Reading) where
+  abbrev i : ℕ
+  i = heardSlot (s .awaited .endpoint) r
 
-  pub link-refused : (q : Refusal) → firstRefusal (readingOwn (s .awaited .next) r) ≡ check.Refused q
-      → (Refused q ≡ linkOutcome s v r .answer)
-      × ((s ≡ linkOutcome s v r .state) × ((v ≡ linkOutcome s v r .events) × ((heardNow .ops ≡ linkOutcome s v r .ops) × ((heardNow .ops ≡ []) × (noWakes ≡ linkOutcome s v r .wakes)))))
-  unfolding linkOutcome linkTurned orElse
-  link-refused q e = rw e (refl, (refl, (refl, (refl, (refl, refl)))))
+  abbrev m : Matched
+  m = matchedAs (s .awaited .next) r
 
-  pub link-settled : (t : State) (f : LinkEffect) (a : Awaited) → firstRefusal (readingOwn (s .awaited .next) r) ≡ check.Fits → f ≡ heardNow .effect → a ≡ heardNow .awaited
-      → t ≡ cond (f .resets) (busResetState s) s → settled (withLink t (linkFlagsOf f)) (f .events) a (heardNow .ops) ≡ linkOutcome s v r
-  unfolding linkOutcome linkTurned orElse
-  link-settled t f a e p q u = rw (u, p, q, e)
+  abbrev h : LinkHeard
+  h = heardLink (s .«ep0_address») (s .revision) (s .awaited) (linkBefore s v) m
 
-  pub transfer-refused : (q : Refusal) → firstRefusal (readingOwn (s .awaited .next) r) ≡ check.Refused q
-      → (Refused q ≡ transferOutcome s v r .answer)
-      × ((s ≡ transferOutcome s v r .state) × ((v ≡ transferOutcome s v r .events) × ((turnedNow .ops ≡ transferOutcome s v r .ops) × ((turnedNow .ops ≡ []) × (noWakes ≡ transferOutcome s v r .wakes)))))
-  unfolding transferOutcome transferTurned orElse
-  transfer-refused q e = rw e (refl, (refl, (refl, (refl, (refl, refl)))))
+  abbrev both : Bool → BothHeard
+  both b =
+      cond b (linkBoth (piecesOf s i) h)
+      (transferBoth (linkBefore s v) (heardPieces (sightOf s (windowOf (inHandCount s (slotsHeard (s .awaited .next))))) (s .awaited) i (piecesOf s i) m))
 
-  pub transfer-settled : (t : State) (a : Awaited) → firstRefusal (readingOwn (s .awaited .next) r) ≡ check.Fits → t ≡ turnedNow .state → a ≡ turnedNow .awaited
-      → settled t v a (turnedNow .ops) ≡ transferOutcome s v r
-  unfolding transferOutcome transferTurned orElse
-  transfer-settled t a e p q = rw (p, q, e)
+  pub heard-settled : door room (soundb s v) ≡ check.Fits → firstRefusal (readingOwn (s .awaited .next) r) ≡ check.Fits
+      → settled (reacted s i (heardIn s v r .link) (heardIn s v r .transfer)) (heardIn s v r .link .events) (heardIn s v r .awaited) (heardIn s v r .ops) ≡ answerCall room s v r
+  unfolding answerCall orElse heardBy linkTurned piecesTurned
+  heard-settled e f = rw (through room (soundb s v) (readingOwn (s .awaited .next) r) e, f) (go (leb (awaitingNumber (s .awaited .next)) 6))
+    where
+      go : (b : Bool) → settled (reacted s i (both b .link) (both b .transfer)) (both b .link .events) (both b .awaited) (both b .ops)
+          ≡ cond b (linkSettled s h) (transferSettled v (heardTransfer s m))
+      go true = ap (λ t. settled t (h .effect .events) (h .awaited) (h .ops)) (link-reacted s i (h .effect))
+      go false =
+          let k = pieces-same s v (good room (soundb s v) e) r in
+          rw (transfer-reacted s v i (both false .transfer), k .state, k .awaited, k .ops)
+
+  -- the same of what was heard, under other names
+  pub heard-as : (k : ℕ) (l : LinkEffect) (f : TransferEffect) (a : Awaited) → door room (soundb s v) ≡ check.Fits → firstRefusal (readingOwn (s .awaited .next) r) ≡ check.Fits
+      → k ≡ i → l ≡ heardIn s v r .link → f ≡ heardIn s v r .transfer → a ≡ heardIn s v r .awaited → settled (reacted s k l f) (l .events) a (heardIn s v r .ops) ≡ answerCall room s v r
+  heard-as k l f a d e p q t u = rw (p, q, t, u) (heard-settled d e)
 
 module _ (room : ℕ) (s : State) (v : Events) where
   pub interrupt-refused : (q : Refusal) → firstRefusal (interruptConditions room s v) ≡ check.Refused q

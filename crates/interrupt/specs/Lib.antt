@@ -1,2 +1,3 @@
 pub mod Interrupt
 pub mod InterruptLaws
+pub mod Parts

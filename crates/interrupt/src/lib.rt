@@ -1,27 +1,27 @@
 // An interrupt as a conversation: it is begun, and each answer says which reading is awaited or that handling has ended
 // (reference: `on_interrupt` of device.rs).
 ghost use mathlib.Core.Path.{_≡_};
-ghost use Prim.Native.Nat.{_≤_, _<_};
 ghost use lib.ListN.{length};
-ghost use Rattle.ops.specs.Ops.{Op, listNumbers};
 ghost use Rattle.ops.specs.Wrote.{Wrote};
-ghost use Rattle.state.specs.Awaiting.{awaitingNumber};
-ghost use mathlib.Core.List.{List};
-ghost use Rattle.state.specs.Setters.{withLink};
+ghost use Rattle.interrupt.specs.Parts.{door, resetBy};
 ghost use Rattle.state_slots.specs.Waking.{noWakes};
 ghost use Rattle.interrupt_asks.specs.declared.InterruptAnswer.the-variants.{Refused};
-ghost use Rattle.interrupt_asks.specs.Settled.{settled, interruptNumbers};
-ghost use Rattle.interrupt.specs.Interrupt.{firstAwaited, interruptCall, interruptSays, linkFlagsOf, linkOutcome, transferOutcome, answerCall, answerSays};
+ghost use Rattle.interrupt_asks.specs.Settled.{interruptNumbers};
+ghost use Rattle.interrupt.specs.Interrupt.{firstAwaited, interruptCall, interruptSays, answerCall, answerSays};
 use interrupt_asks::InterruptAnswer;
 use interrupt_asks::InterruptResult;
 use interrupt_link::LinkEffect;
+use interrupt_transfer::Sight;
+use interrupt_transfer::TransferEffect;
 use state::Awaited;
 use state::Awaiting;
 use state::Check;
 use state::Events;
 use state::Reading;
 use state::Refusal;
+use state::Setup;
 use state::State;
+use transfer_chain::CHAIN_PACKETS;
 
 // A refused call changes nothing.
 fn refused(refusal: Refusal, state: State, events: Events) -> InterruptResult
@@ -83,115 +83,25 @@ pub fn interrupt(ops: &mut [u32], state: State, events: Events) -> InterruptResu
     }
 }
 
-// What a reading of the link leaves, and how the call ends.
-fn link_settle(state: State, effect: LinkEffect, asks: Awaited, end: usize) -> InterruptResult
-    ensures answer { λ r. ⌜ ((l : List Op) → r .answer ≡ settled (withLink state (linkFlagsOf effect)) (effect .events) asks l .answer) ⌝ }
-    ensures state { λ r. ⌜ ((l : List Op) → r .state ≡ settled (withLink state (linkFlagsOf effect)) (effect .events) asks l .state) ⌝ }
-    ensures events { λ r. ⌜ ((l : List Op) → r .events ≡ settled (withLink state (linkFlagsOf effect)) (effect .events) asks l .events) ⌝ }
-    ensures wakes { λ r. ⌜ ((l : List Op) → r .wakes ≡ settled (withLink state (linkFlagsOf effect)) (effect .events) asks l .wakes) ⌝ }
-    ensures end { λ r. ⌜ r .end ≡ end ⌝ }
+// 10 and 26, before a reading is looked at.
+fn is_open(room: usize, good: bool) -> Check
+    ensures { λ r. ⌜ r ≡ door room good ⌝ }
 {
-    let mut s = state;
-    let next = asks.next;
-    let awaiting = state::readings::is_awaiting(next);
-    let events = effect.events;
-    let wakes = interrupt_asks::woken(awaiting, events, s.wake);
-    let answer = interrupt_asks::said(awaiting, next);
-    let wake = interrupt_asks::left_wake(awaiting, s.wake);
-    let left = interrupt_asks::left_awaited(awaiting, asks);
-    s.suspended = effect.suspended;
-    s.reset_seen = effect.reset_seen;
-    s.low_power = effect.low_power;
-    s.wake = wake;
-    s.awaited = left;
-    InterruptResult {
-        state: s,
-        events: events,
-        answer: answer,
-        end: end,
-        wakes: wakes,
-    }
+    let sound = state::refusals::refuse_if(!good, Refusal::Unsound, Check::Fits);
+    state::refusals::refuse_if(room < ops::LIST_NUMBERS, Refusal::ListTooShort, sound)
 }
 
-// A reading while one of the link's, or none, is awaited.
-fn link_answer(ops: &mut [u32], state: State, events: Events, reading: Reading) -> InterruptResult
-    requires room { ⌜ listNumbers ≤ length (now ops) ⌝ }
-    requires link { ⌜ awaitingNumber (state .awaited .next) ≤ 6 ⌝ }
-    ensures answer { λ r. ⌜ r .answer ≡ linkOutcome state events reading .answer ⌝ }
-    ensures state { λ r. ⌜ r .state ≡ linkOutcome state events reading .state ⌝ }
-    ensures events { λ r. ⌜ r .events ≡ linkOutcome state events reading .events ⌝ }
-    ensures list { λ r. ⌜ Wrote (now (ops .entry)) 0 (linkOutcome state events reading .ops) (r .end) (now (ops .exit)) ⌝ }
-    ensures wakes { λ r. ⌜ r .wakes ≡ linkOutcome state events reading .wakes ⌝ }
+// A bus reset, or the bytes of a SETUP, which reset the control transfer.
+fn reset_by(bus: bool, state: State, setup: Setup) -> State
+    ensures { λ r. ⌜ r ≡ resetBy bus state setup ⌝ }
 {
-    let awaited = state.awaited;
-    let before = LinkEffect {
-        resets: false,
-        suspended: state.suspended,
-        reset_seen: state.reset_seen,
-        low_power: state.low_power,
-        events: events,
-    };
-    let turn = interrupt_readings::hear_link(
-        ops,
-        state.ep0_address,
-        state.revision,
-        awaited,
-        before,
-        reading,
-    );
-    let check = turn.check;
-    if let Check::Refused(refusal) = check {
-        return refused(refusal, state, events);
+    if bus {
+        return bus_reset::reset_state(state);
     }
-    let effect = turn.effect;
-    let asks = turn.awaited;
-    if effect.resets {
-        let after = bus_reset::reset_state(state);
-        return link_settle(after, effect, asks, turn.end);
-    }
-    link_settle(state, effect, asks, turn.end)
+    control_report::setup_received(state, setup)
 }
 
-// A reading while one of the transfers is awaited.
-fn transfer_answer(
-    ops: &mut [u32],
-    state: State,
-    events: Events,
-    reading: Reading,
-) -> InterruptResult
-    requires room { ⌜ listNumbers ≤ length (now ops) ⌝ }
-    requires transfer { ⌜ 6 < awaitingNumber (state .awaited .next) ⌝ }
-    ensures answer { λ r. ⌜ r .answer ≡ transferOutcome state events reading .answer ⌝ }
-    ensures state { λ r. ⌜ r .state ≡ transferOutcome state events reading .state ⌝ }
-    ensures events { λ r. ⌜ r .events ≡ transferOutcome state events reading .events ⌝ }
-    ensures list { λ r. ⌜ Wrote (now (ops .entry)) 0 (transferOutcome state events reading .ops) (r .end) (now (ops .exit)) ⌝ }
-    ensures wakes { λ r. ⌜ r .wakes ≡ transferOutcome state events reading .wakes ⌝ }
-{
-    let turn = interrupt_followers::hear_transfer(ops, state, reading);
-    let check = turn.check;
-    if let Check::Refused(refusal) = check {
-        return refused(refusal, state, events);
-    }
-    let mut s = turn.state;
-    let asks = turn.awaited;
-    let next = asks.next;
-    let awaiting = state::readings::is_awaiting(next);
-    let wakes = interrupt_asks::woken(awaiting, events, s.wake);
-    let answer = interrupt_asks::said(awaiting, next);
-    let wake = interrupt_asks::left_wake(awaiting, s.wake);
-    let left = interrupt_asks::left_awaited(awaiting, asks);
-    s.wake = wake;
-    s.awaited = left;
-    InterruptResult {
-        state: s,
-        events: events,
-        answer: answer,
-        end: turn.end,
-        wakes: wakes,
-    }
-}
-
-// Hands a reading in.
+// Hands a reading in. Its slot and what else it looks at are taken out of the state, and stored back where they lie.
 pub fn answer(ops: &mut [u32], state: State, events: Events, reading: Reading) -> InterruptResult
     ensures answer { λ r. ⌜ r .answer ≡ answerCall (length (now (ops .entry))) state events reading .answer ⌝ }
     ensures state { λ r. ⌜ r .state ≡ answerCall (length (now (ops .entry))) state events reading .state ⌝ }
@@ -200,18 +110,91 @@ pub fn answer(ops: &mut [u32], state: State, events: Events, reading: Reading) -
     ensures wakes { λ r. ⌜ r .wakes ≡ answerCall (length (now (ops .entry))) state events reading .wakes ⌝ }
     ensures numbers { λ r. ⌜ interruptNumbers (r .answer) ≡ answerSays (length (now (ops .entry))) state events reading ⌝ }
 {
-    let good = state_sound::sound(state, events);
-    let short = ops.len() < ops::LIST_NUMBERS;
-    let sound = state::refusals::refuse_if(!good, Refusal::Unsound, Check::Fits);
-    let check = state::refusals::refuse_if(short, Refusal::ListTooShort, sound);
+    let mut s = state;
+    let good = state_sound::sound(s, events);
+    let open = is_open(ops.len(), good);
+    if let Check::Refused(refusal) = open {
+        return refused(refusal, s, events);
+    }
+    let awaited = s.awaited;
+    let before = awaited.next;
+    let most = interrupt_hear::slots_heard(before);
+    let mut count: u32 = 0;
+    let mut n: usize = 0;
+    while n < most {
+        let k = n + 2;
+        let x = s.endpoints[k];
+        let phase = x.phase;
+        let idle = state_slots::is_idle(phase);
+        count = count + !idle as u32;
+        n = n + 1;
+    }
+    let window = transfer_window::window_of(count);
+    let i = interrupt_hear::slot_heard(awaited, reading);
+    let slot = s.endpoints[i];
+    let setup = s.setup;
+    let heard = interrupt_hear::hear(
+        ops,
+        s.ep0_address,
+        s.revision,
+        Sight {
+            limit: CHAIN_PACKETS,
+            window: window,
+            address: s.address,
+            in_last: s.in_last,
+        },
+        awaited,
+        LinkEffect {
+            resets: false,
+            suspended: s.suspended,
+            reset_seen: s.reset_seen,
+            low_power: s.low_power,
+            events: events,
+        },
+        i,
+        TransferEffect {
+            slot: slot,
+            wake: s.wake,
+            has_address: s.has_address,
+            tx_seq: s.tx_seq,
+            received: false,
+            setup: setup,
+        },
+        reading,
+    );
+    let check = heard.check;
     if let Check::Refused(refusal) = check {
-        return refused(refusal, state, events);
+        return refused(refusal, s, events);
     }
-    let awaited = state.awaited;
-    let next = awaited.next;
-    let place = state::readings::awaiting_number(next);
-    if place <= 6 {
-        return link_answer(ops, state, events, reading);
+    let link = heard.link;
+    let transfer = heard.transfer;
+    let y = transfer.slot;
+    s.endpoints[i] = y;
+    s.wake = transfer.wake;
+    s.has_address = transfer.has_address;
+    s.tx_seq = transfer.tx_seq;
+    if link.resets | transfer.received {
+        let bytes = transfer.setup;
+        s = reset_by(link.resets, s, bytes);
     }
-    transfer_answer(ops, state, events, reading)
+    let asks = heard.awaited;
+    let next = asks.next;
+    let awaiting = state::readings::is_awaiting(next);
+    let after = link.events;
+    let wakes = interrupt_asks::woken(awaiting, after, s.wake);
+    let answer = interrupt_asks::said(awaiting, next);
+    let wake = interrupt_asks::left_wake(awaiting, s.wake);
+    let left = interrupt_asks::left_awaited(awaiting, asks);
+    s.suspended = link.suspended;
+    s.reset_seen = link.reset_seen;
+    s.low_power = link.low_power;
+    s.wake = wake;
+    s.awaited = left;
+    InterruptResult {
+        state: s,
+        events: after,
+        answer: answer,
+        end: heard.end,
+        wakes: wakes,
+    }
 }

@@ -2,15 +2,11 @@
 -- Assumes nothing.
 use mathlib.Core.Bool.{false}
 use mathlib.Core.List.{[]}
-use Rattle.state.specs.declared.Awaiting.{Awaiting}
-use Rattle.state.specs.declared.Reading.{Reading}
 use Rattle.state.specs.declared.State.{State}
-use Rattle.state.specs.Refusals.{firstRefusal}
-use Rattle.state_call.specs.Outcome.{orElse}
 use Rattle.transfer_report.specs.Report.{reportState, reportOps}
 use Rattle.control_report.specs.Ep0.{setupReceived, lengthOps, lengthReceived, statusFollows, sequenceOps, packetSent}
 use Rattle.interrupt_transfer.specs.Transfers.{Turned, over, asking, lastAsked, statusTurn}
-use Rattle.interrupt_readings.specs.Matched.{Matched, other, linkFlags, linkStatus, capability, termStatus, message, warmStatus, transferStatus, setupBytes, ep0Length, ep0Sequence, chainPackets, lastLength, matchedAs, readingOwn}
+use Rattle.interrupt_readings.specs.Matched.{Matched, other, linkFlags, linkStatus, capability, termStatus, message, warmStatus, transferStatus, setupBytes, ep0Length, ep0Sequence, chainPackets, lastLength}
 
 -- a reading that changes nothing
 abbrev pub unturned : State → Turned
@@ -31,7 +27,3 @@ heardTransfer s (ep0Sequence q) = over (packetSent s q) (sequenceOps (statusFoll
 heardTransfer s (chainPackets p) = asking s (lastAsked (s .awaited) p) []
 heardTransfer s (lastLength n) =
     over (reportState s (s .awaited .endpoint) false (s .awaited .packets) n) (reportOps s (s .awaited .endpoint) false (s .awaited .packets) n)
-
--- a reading, unless it is refused
-unfoldable pub transferTurned : State → Awaiting → Reading → Turned
-transferTurned s next r = orElse (firstRefusal (readingOwn next r)) (λ q. unturned s) (heardTransfer s (matchedAs next r))

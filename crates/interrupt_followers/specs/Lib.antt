@@ -1,2 +1,3 @@
 pub mod Followers
-pub mod FollowersLaws
+pub mod Pieces
+pub mod PiecesLaws

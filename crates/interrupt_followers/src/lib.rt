@@ -1,214 +1,269 @@
-// The transfer status, and the readings behind it (reference: `transfer_irq`, `ep0_irq` and `data_irq` of device.rs).
+// The transfer status, and the readings behind it, by the slot that each is about (reference: `transfer_irq`, `ep0_irq` and
+// `data_irq` of device.rs).
 ghost use mathlib.Core.Path.{_≡_};
 ghost use mathlib.Core.List.{[]};
-ghost use Prim.Native.Nat.{_≤_, _<_};
+ghost use Prim.Native.Nat.{ℕ, _≤_, _<_};
 ghost use lib.ListN.{length};
 ghost use Rattle.ops.specs.Ops.{listNumbers};
 ghost use Rattle.ops.specs.Wrote.{Wrote};
 ghost use Rattle.state.specs.declared.Awaiting.the-variants as awaiting;
-ghost use Rattle.state.specs.declared.Check.the-variants.{Refused};
+ghost use Rattle.state.specs.declared.Check.the-variants.{Fits, Refused};
 ghost use Rattle.state.specs.Awaiting.{awaitingNumber};
+ghost use Rattle.state.specs.Fresh.{nothingAwaited};
 ghost use Rattle.state.specs.Refusals.{firstRefusal};
+ghost use Rattle.interrupt_transfer.specs.declared.Sight.{Sight};
 ghost use Rattle.interrupt_readings.specs.Matched.{readingOwn};
-ghost use Rattle.interrupt_followers.specs.Followers.{transferTurned};
+ghost use Rattle.interrupt_followers.specs.Pieces.{piecesTurned};
+use interrupt_transfer::Sight;
+use interrupt_transfer::TransferEffect;
+use interrupt_transfer::TransferTurn;
+use ops::numbers::*;
 use state::Awaited;
 use state::Awaiting;
 use state::Check;
 use state::EP0_SIZE;
 use state::Reading;
 use state::Refusal;
-use state::State;
 
 // What a reading of the transfers comes to.
 pub struct Turn {
     pub check: Check,
-    pub state: State,
+    pub effect: TransferEffect,
     pub awaited: Awaited,
     pub end: usize,
 }
 
 // A refused reading: nothing is done, and the same one is still awaited.
-fn refused(refusal: Refusal, state: State) -> Turn
+fn refused(refusal: Refusal, awaited: Awaited, effect: TransferEffect) -> Turn
     ensures check { λ r. ⌜ r .check ≡ Refused refusal ⌝ }
-    ensures state { λ r. ⌜ r .state ≡ state ⌝ }
-    ensures awaited { λ r. ⌜ r .awaited ≡ state .awaited ⌝ }
+    ensures effect { λ r. ⌜ r .effect ≡ effect ⌝ }
+    ensures awaited { λ r. ⌜ r .awaited ≡ awaited ⌝ }
     ensures end { λ r. ⌜ r .end ≡ 0 ⌝ }
 {
-    let awaited = state.awaited;
     Turn {
         check: Check::Refused(refusal),
-        state: state,
+        effect: effect,
         awaited: awaited,
         end: 0,
     }
 }
 
-fn on_transfer_status(ops: &mut [u32], state: State, reading: Reading) -> Turn
-    requires { ⌜ listNumbers ≤ length (now ops) ⌝ }
-    ensures check { λ r. ⌜ r .check ≡ firstRefusal (readingOwn awaiting.TransferStatus reading) ⌝ }
-    ensures state { λ r. ⌜ r .state ≡ transferTurned state awaiting.TransferStatus reading .state ⌝ }
-    ensures awaited { λ r. ⌜ r .awaited ≡ transferTurned state awaiting.TransferStatus reading .awaited ⌝ }
-    ensures list { λ r. ⌜ Wrote (now (ops .entry)) 0 (transferTurned state awaiting.TransferStatus reading .ops) (r .end) (now (ops .exit)) ⌝ }
+fn accepted(turn: TransferTurn) -> Turn
+    ensures check { λ r. ⌜ r .check ≡ Fits ⌝ }
+    ensures effect { λ r. ⌜ r .effect ≡ turn .effect ⌝ }
+    ensures awaited { λ r. ⌜ r .awaited ≡ turn .awaited ⌝ }
+    ensures end { λ r. ⌜ r .end ≡ turn .end ⌝ }
 {
-    let Reading::TransferStatus(status) = reading else {
-        return refused(Refusal::OutOfTurn, state);
-    };
-    if 15 < status.ep_id {
-        return refused(Refusal::OutOfRange, state);
-    }
-    let turn = interrupt_transfer::status_turn(ops, 0, state, status);
-    let after = turn.state;
-    let asks = turn.awaited;
+    let effect = turn.effect;
+    let awaited = turn.awaited;
     Turn {
         check: Check::Fits,
-        state: after,
-        awaited: asks,
+        effect: effect,
+        awaited: awaited,
         end: turn.end,
     }
 }
 
-fn on_setup_bytes(state: State, reading: Reading) -> Turn
+// An effect behind which nothing is awaited.
+fn over(effect: TransferEffect, end: usize) -> Turn
+    ensures check { λ r. ⌜ r .check ≡ Fits ⌝ }
+    ensures effect { λ r. ⌜ r .effect ≡ effect ⌝ }
+    ensures awaited { λ r. ⌜ r .awaited ≡ nothingAwaited ⌝ }
+    ensures end { λ r. ⌜ r .end ≡ end ⌝ }
+{
+    let nothing = state::fresh::nothing_awaited();
+    Turn {
+        check: Check::Fits,
+        effect: effect,
+        awaited: nothing,
+        end: end,
+    }
+}
+
+fn on_transfer_status(
+    ops: &mut [u32],
+    sight: Sight,
+    awaited: Awaited,
+    i: usize,
+    effect: TransferEffect,
+    reading: Reading,
+) -> Turn
+    requires { ⌜ listNumbers ≤ length (now ops) ⌝ }
+    ensures check { λ r. ⌜ r .check ≡ firstRefusal (readingOwn awaiting.TransferStatus reading) ⌝ }
+    ensures effect { λ r. ⌜ r .effect ≡ piecesTurned sight awaited i effect awaiting.TransferStatus reading .effect ⌝ }
+    ensures awaited { λ r. ⌜ r .awaited ≡ piecesTurned sight awaited i effect awaiting.TransferStatus reading .awaited ⌝ }
+    ensures list { λ r. ⌜ Wrote (now (ops .entry)) 0 (piecesTurned sight awaited i effect awaiting.TransferStatus reading .ops) (r .end) (now (ops .exit)) ⌝ }
+{
+    let Reading::TransferStatus(status) = reading else {
+        return refused(Refusal::OutOfTurn, awaited, effect);
+    };
+    if 15 < status.ep_id {
+        return refused(Refusal::OutOfRange, awaited, effect);
+    }
+    let turn = interrupt_transfer::status_turn(ops, 0, sight, awaited, i, effect, status);
+    accepted(turn)
+}
+
+fn on_setup_bytes(awaited: Awaited, effect: TransferEffect, reading: Reading) -> Turn
     ensures check { λ r. ⌜ r .check ≡ firstRefusal (readingOwn awaiting.SetupBytes reading) ⌝ }
-    ensures state { λ r. ⌜ r .state ≡ transferTurned state awaiting.SetupBytes reading .state ⌝ }
-    ensures awaited { λ r. ⌜ r .awaited ≡ transferTurned state awaiting.SetupBytes reading .awaited ⌝ }
-    ensures list { λ r. ⌜ transferTurned state awaiting.SetupBytes reading .ops ≡ [] ⌝ }
+    ensures effect { λ r. ⌜ ((g : Sight) (i : ℕ) → r .effect ≡ piecesTurned g awaited i effect awaiting.SetupBytes reading .effect) ⌝ }
+    ensures awaited { λ r. ⌜ ((g : Sight) (i : ℕ) → r .awaited ≡ piecesTurned g awaited i effect awaiting.SetupBytes reading .awaited) ⌝ }
+    ensures list { λ r. ⌜ ((g : Sight) (i : ℕ) → piecesTurned g awaited i effect awaiting.SetupBytes reading .ops ≡ []) ⌝ }
     ensures end { λ r. ⌜ r .end ≡ 0 ⌝ }
 {
     let Reading::SetupBytes(bytes) = reading else {
-        return refused(Refusal::OutOfTurn, state);
+        return refused(Refusal::OutOfTurn, awaited, effect);
     };
-    let after = control_report::setup_received(state, bytes);
-    let nothing = state::fresh::nothing_awaited();
-    Turn {
-        check: Check::Fits,
-        state: after,
-        awaited: nothing,
-        end: 0,
-    }
+    let mut f = effect;
+    f.received = true;
+    f.setup = bytes;
+    over(f, 0)
 }
 
-fn on_ep0_length(ops: &mut [u32], state: State, reading: Reading) -> Turn
+fn on_ep0_length(
+    ops: &mut [u32],
+    sight: Sight,
+    awaited: Awaited,
+    i: usize,
+    effect: TransferEffect,
+    reading: Reading,
+) -> Turn
     requires { ⌜ listNumbers ≤ length (now ops) ⌝ }
     ensures check { λ r. ⌜ r .check ≡ firstRefusal (readingOwn awaiting.Ep0Length reading) ⌝ }
-    ensures state { λ r. ⌜ r .state ≡ transferTurned state awaiting.Ep0Length reading .state ⌝ }
-    ensures awaited { λ r. ⌜ r .awaited ≡ transferTurned state awaiting.Ep0Length reading .awaited ⌝ }
-    ensures list { λ r. ⌜ Wrote (now (ops .entry)) 0 (transferTurned state awaiting.Ep0Length reading .ops) (r .end) (now (ops .exit)) ⌝ }
+    ensures effect { λ r. ⌜ r .effect ≡ piecesTurned sight awaited i effect awaiting.Ep0Length reading .effect ⌝ }
+    ensures awaited { λ r. ⌜ r .awaited ≡ piecesTurned sight awaited i effect awaiting.Ep0Length reading .awaited ⌝ }
+    ensures list { λ r. ⌜ Wrote (now (ops .entry)) 0 (piecesTurned sight awaited i effect awaiting.Ep0Length reading .ops) (r .end) (now (ops .exit)) ⌝ }
 {
     let Reading::Ep0Length(length) = reading else {
-        return refused(Refusal::OutOfTurn, state);
+        return refused(Refusal::OutOfTurn, awaited, effect);
     };
     if EP0_SIZE < length {
-        return refused(Refusal::OutOfRange, state);
+        return refused(Refusal::OutOfRange, awaited, effect);
     }
-    let staged = control_report::length_received(ops, 0, state, length);
-    let after = staged.state;
-    let nothing = state::fresh::nothing_awaited();
-    Turn {
-        check: Check::Fits,
-        state: after,
-        awaited: nothing,
-        end: staged.end,
-    }
+    let end = regs_control::ep0_rx_answer(ops, 0, NRDY);
+    let mut f = effect;
+    let slot = f.slot;
+    let y = control_report::received_slot(slot, length);
+    f.slot = y;
+    let done = interrupt_transfer::complete(0, f);
+    over(done, end)
 }
 
-fn on_ep0_sequence(ops: &mut [u32], state: State, reading: Reading) -> Turn
+// Behind the last packet, or where no stage is under way, the status stage completes the slot.
+fn on_ep0_sequence(
+    ops: &mut [u32],
+    sight: Sight,
+    awaited: Awaited,
+    i: usize,
+    effect: TransferEffect,
+    reading: Reading,
+) -> Turn
     requires { ⌜ listNumbers ≤ length (now ops) ⌝ }
     ensures check { λ r. ⌜ r .check ≡ firstRefusal (readingOwn awaiting.Ep0Sequence reading) ⌝ }
-    ensures state { λ r. ⌜ r .state ≡ transferTurned state awaiting.Ep0Sequence reading .state ⌝ }
-    ensures awaited { λ r. ⌜ r .awaited ≡ transferTurned state awaiting.Ep0Sequence reading .awaited ⌝ }
-    ensures list { λ r. ⌜ Wrote (now (ops .entry)) 0 (transferTurned state awaiting.Ep0Sequence reading .ops) (r .end) (now (ops .exit)) ⌝ }
+    ensures effect { λ r. ⌜ r .effect ≡ piecesTurned sight awaited i effect awaiting.Ep0Sequence reading .effect ⌝ }
+    ensures awaited { λ r. ⌜ r .awaited ≡ piecesTurned sight awaited i effect awaiting.Ep0Sequence reading .awaited ⌝ }
+    ensures list { λ r. ⌜ Wrote (now (ops .entry)) 0 (piecesTurned sight awaited i effect awaiting.Ep0Sequence reading .ops) (r .end) (now (ops .exit)) ⌝ }
 {
     let Reading::Ep0Sequence(sequence) = reading else {
-        return refused(Refusal::OutOfTurn, state);
+        return refused(Refusal::OutOfTurn, awaited, effect);
     };
     if 31 < sequence {
-        return refused(Refusal::OutOfRange, state);
+        return refused(Refusal::OutOfRange, awaited, effect);
     }
-    let staged = control_report::packet_sent(ops, 0, state, sequence as u8);
-    let after = staged.state;
-    let nothing = state::fresh::nothing_awaited();
-    Turn {
-        check: Check::Fits,
-        state: after,
-        awaited: nothing,
-        end: staged.end,
+    let mut f = effect;
+    let slot = f.slot;
+    let phase = slot.phase;
+    let busy = state_slots::is_busy(phase);
+    let follows = sight.in_last | !busy;
+    let end = control_report::answer_packet(ops, 0, follows);
+    f.tx_seq = sequence as u8;
+    if follows {
+        return over(f, end);
     }
+    let done = interrupt_transfer::complete(1, f);
+    over(done, end)
 }
 
-fn on_chain_packets(state: State, reading: Reading) -> Turn
+fn on_chain_packets(awaited: Awaited, effect: TransferEffect, reading: Reading) -> Turn
     ensures check { λ r. ⌜ r .check ≡ firstRefusal (readingOwn awaiting.ChainPackets reading) ⌝ }
-    ensures state { λ r. ⌜ r .state ≡ transferTurned state awaiting.ChainPackets reading .state ⌝ }
-    ensures awaited { λ r. ⌜ r .awaited ≡ transferTurned state awaiting.ChainPackets reading .awaited ⌝ }
-    ensures list { λ r. ⌜ transferTurned state awaiting.ChainPackets reading .ops ≡ [] ⌝ }
+    ensures effect { λ r. ⌜ ((g : Sight) (i : ℕ) → r .effect ≡ piecesTurned g awaited i effect awaiting.ChainPackets reading .effect) ⌝ }
+    ensures awaited { λ r. ⌜ ((g : Sight) (i : ℕ) → r .awaited ≡ piecesTurned g awaited i effect awaiting.ChainPackets reading .awaited) ⌝ }
+    ensures list { λ r. ⌜ ((g : Sight) (i : ℕ) → piecesTurned g awaited i effect awaiting.ChainPackets reading .ops ≡ []) ⌝ }
     ensures end { λ r. ⌜ r .end ≡ 0 ⌝ }
 {
     let Reading::ChainPackets(packets) = reading else {
-        return refused(Refusal::OutOfTurn, state);
+        return refused(Refusal::OutOfTurn, awaited, effect);
     };
     if 255 < packets {
-        return refused(Refusal::OutOfRange, state);
+        return refused(Refusal::OutOfRange, awaited, effect);
     }
-    let awaited = state.awaited;
     let asks = interrupt_transfer::ask_last(awaited, packets as u8);
     Turn {
         check: Check::Fits,
-        state: state,
+        effect: effect,
         awaited: asks,
         end: 0,
     }
 }
 
-fn on_last_length(ops: &mut [u32], state: State, reading: Reading) -> Turn
+fn on_last_length(
+    ops: &mut [u32],
+    sight: Sight,
+    awaited: Awaited,
+    i: usize,
+    effect: TransferEffect,
+    reading: Reading,
+) -> Turn
     requires { ⌜ listNumbers ≤ length (now ops) ⌝ }
     ensures check { λ r. ⌜ r .check ≡ firstRefusal (readingOwn awaiting.LastLength reading) ⌝ }
-    ensures state { λ r. ⌜ r .state ≡ transferTurned state awaiting.LastLength reading .state ⌝ }
-    ensures awaited { λ r. ⌜ r .awaited ≡ transferTurned state awaiting.LastLength reading .awaited ⌝ }
-    ensures list { λ r. ⌜ Wrote (now (ops .entry)) 0 (transferTurned state awaiting.LastLength reading .ops) (r .end) (now (ops .exit)) ⌝ }
+    ensures effect { λ r. ⌜ r .effect ≡ piecesTurned sight awaited i effect awaiting.LastLength reading .effect ⌝ }
+    ensures awaited { λ r. ⌜ r .awaited ≡ piecesTurned sight awaited i effect awaiting.LastLength reading .awaited ⌝ }
+    ensures list { λ r. ⌜ Wrote (now (ops .entry)) 0 (piecesTurned sight awaited i effect awaiting.LastLength reading .ops) (r .end) (now (ops .exit)) ⌝ }
 {
     let Reading::LastLength(last) = reading else {
-        return refused(Refusal::OutOfTurn, state);
+        return refused(Refusal::OutOfTurn, awaited, effect);
     };
     if 65535 < last {
-        return refused(Refusal::OutOfRange, state);
+        return refused(Refusal::OutOfRange, awaited, effect);
     }
-    let awaited = state.awaited;
-    let reported = transfer_report::report(
+    let turn = interrupt_transfer::report(
         ops,
         0,
-        state,
+        sight,
+        i,
+        effect,
         awaited.endpoint,
         false,
         awaited.packets as u32,
         last,
     );
-    let after = reported.state;
-    let nothing = state::fresh::nothing_awaited();
-    Turn {
-        check: Check::Fits,
-        state: after,
-        awaited: nothing,
-        end: reported.end,
-    }
+    accepted(turn)
 }
 
 // A reading while one of the transfers is awaited.
-pub fn hear_transfer(ops: &mut [u32], state: State, reading: Reading) -> Turn
+pub fn hear_transfer(
+    ops: &mut [u32],
+    sight: Sight,
+    awaited: Awaited,
+    i: usize,
+    effect: TransferEffect,
+    reading: Reading,
+) -> Turn
     requires room { ⌜ listNumbers ≤ length (now ops) ⌝ }
-    requires transfer { ⌜ 6 < awaitingNumber (state .awaited .next) ⌝ }
-    ensures check { λ r. ⌜ r .check ≡ firstRefusal (readingOwn (state .awaited .next) reading) ⌝ }
-    ensures state { λ r. ⌜ r .state ≡ transferTurned state (state .awaited .next) reading .state ⌝ }
-    ensures awaited { λ r. ⌜ r .awaited ≡ transferTurned state (state .awaited .next) reading .awaited ⌝ }
-    ensures list { λ r. ⌜ Wrote (now (ops .entry)) 0 (transferTurned state (state .awaited .next) reading .ops) (r .end) (now (ops .exit)) ⌝ }
+    requires transfer { ⌜ 6 < awaitingNumber (awaited .next) ⌝ }
+    ensures check { λ r. ⌜ r .check ≡ firstRefusal (readingOwn (awaited .next) reading) ⌝ }
+    ensures effect { λ r. ⌜ r .effect ≡ piecesTurned sight awaited i effect (awaited .next) reading .effect ⌝ }
+    ensures awaited { λ r. ⌜ r .awaited ≡ piecesTurned sight awaited i effect (awaited .next) reading .awaited ⌝ }
+    ensures list { λ r. ⌜ Wrote (now (ops .entry)) 0 (piecesTurned sight awaited i effect (awaited .next) reading .ops) (r .end) (now (ops .exit)) ⌝ }
 {
-    let awaited = state.awaited;
     let next = awaited.next;
     match next {
-        Awaiting::TransferStatus => on_transfer_status(ops, state, reading),
-        Awaiting::SetupBytes => on_setup_bytes(state, reading),
-        Awaiting::Ep0Length => on_ep0_length(ops, state, reading),
-        Awaiting::Ep0Sequence => on_ep0_sequence(ops, state, reading),
-        Awaiting::ChainPackets => on_chain_packets(state, reading),
-        Awaiting::LastLength => on_last_length(ops, state, reading),
-        _ => refused(Refusal::OutOfTurn, state),
+        Awaiting::TransferStatus => on_transfer_status(ops, sight, awaited, i, effect, reading),
+        Awaiting::SetupBytes => on_setup_bytes(awaited, effect, reading),
+        Awaiting::Ep0Length => on_ep0_length(ops, sight, awaited, i, effect, reading),
+        Awaiting::Ep0Sequence => on_ep0_sequence(ops, sight, awaited, i, effect, reading),
+        Awaiting::ChainPackets => on_chain_packets(awaited, effect, reading),
+        Awaiting::LastLength => on_last_length(ops, sight, awaited, i, effect, reading),
+        _ => refused(Refusal::OutOfTurn, awaited, effect),
     }
 }

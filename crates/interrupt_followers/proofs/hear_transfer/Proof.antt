@@ -3,7 +3,7 @@ use native.Mathlib.Omega.{arith}
 use mathlib.Core.Path.{sym}
 use Rattle.ops.specs.WroteLaws.{none, same}
 use Rattle.interrupt_readings.specs.MatchedLaws.{tag-place, early}
-use Rattle.interrupt_followers.specs.FollowersLaws.{turned-as}
+use Rattle.interrupt_followers.specs.PiecesLaws.{turned-as}
 use borrow.Author.Needs.{needs}
 use Rattle.interrupt_followers.proofs.hear_transfer.Statement.{statement}
 use Rattle.interrupt_followers.proofs.hear_transfer.Tie as tie
@@ -52,47 +52,47 @@ same-length c = search needs
 
 returns : tie.Need-returns
 returns c =
-    let a = c .before .before .before .before .before .before .before .before .args in
-    turned-as (a .state) (a .reading) (c .before .before .before .before .enum-told .given .1) (c .before .before .on-transfer-status .ensures)
+    let a = c .before .before .before .before .before .before .before .args in
+    turned-as (a .sight) (a .awaited) (a .i) (a .effect) (a .reading) (c .before .before .before .before .enum-told .given .1) (c .before .before .on-transfer-status .ensures)
 
 returns-2 : tie.Need-returns-2
 returns-2 c =
-    let a = c .before .before .before .before .before .args in
+    let a = c .before .before .before .before .args in
     let o = c .on-setup-bytes .ensures in
-    turned-as (a .state) (a .reading) (c .before .enum-told2 .given .1) (o .0, (o .1 .0, (o .1 .1 .0, same (sym (o .1 .1 .1 .0)) (rw (o .1 .1 .1 .1) (none _ 0)))))
+    turned-as (a .sight) (a .awaited) (a .i) (a .effect) (a .reading) (c .before .enum-told2 .given .1) (o .0, (o .1 .0 _ _, (o .1 .1 .0 _ _, same (sym (o .1 .1 .1 .0 _ _)) (rw (o .1 .1 .1 .1) (none _ 0)))))
 
 same-length-2 : tie.Need-same-length-2
 same-length-2 c = search needs
 
 returns-3 : tie.Need-returns-3
 returns-3 c =
-    let a = c .before .before .before .before .before .before .before .before .args in
-    turned-as (a .state) (a .reading) (c .before .before .before .before .enum-told3 .given .1) (c .before .before .on-ep0-length .ensures)
+    let a = c .before .before .before .before .before .before .before .args in
+    turned-as (a .sight) (a .awaited) (a .i) (a .effect) (a .reading) (c .before .before .before .before .enum-told3 .given .1) (c .before .before .on-ep0-length .ensures)
 
 same-length-3 : tie.Need-same-length-3
 same-length-3 c = search needs
 
 returns-4 : tie.Need-returns-4
 returns-4 c =
-    let a = c .before .before .before .before .before .before .before .before .args in
-    turned-as (a .state) (a .reading) (c .before .before .before .before .enum-told4 .given .1) (c .before .before .on-ep0-sequence .ensures)
+    let a = c .before .before .before .before .before .before .before .args in
+    turned-as (a .sight) (a .awaited) (a .i) (a .effect) (a .reading) (c .before .before .before .before .enum-told4 .given .1) (c .before .before .on-ep0-sequence .ensures)
 
 returns-5 : tie.Need-returns-5
 returns-5 c =
-    let a = c .before .before .before .before .before .args in
+    let a = c .before .before .before .before .args in
     let o = c .on-chain-packets .ensures in
-    turned-as (a .state) (a .reading) (c .before .enum-told5 .given .1) (o .0, (o .1 .0, (o .1 .1 .0, same (sym (o .1 .1 .1 .0)) (rw (o .1 .1 .1 .1) (none _ 0)))))
+    turned-as (a .sight) (a .awaited) (a .i) (a .effect) (a .reading) (c .before .enum-told5 .given .1) (o .0, (o .1 .0 _ _, (o .1 .1 .0 _ _, same (sym (o .1 .1 .1 .0 _ _)) (rw (o .1 .1 .1 .1) (none _ 0)))))
 
 same-length-4 : tie.Need-same-length-4
 same-length-4 c = search needs
 
 returns-6 : tie.Need-returns-6
 returns-6 c =
-    let a = c .before .before .before .before .before .before .before .before .args in
-    turned-as (a .state) (a .reading) (c .before .before .before .before .enum-told6 .given .1) (c .before .before .on-last-length .ensures)
+    let a = c .before .before .before .before .before .before .before .args in
+    turned-as (a .sight) (a .awaited) (a .i) (a .effect) (a .reading) (c .before .before .before .before .enum-told6 .given .1) (c .before .before .on-last-length .ensures)
 
 returns-7 : tie.Need-returns-7
-returns-7 c = absurd (omega (arith, early _ (c .before .match .keys7), tag-place (c .before .before .before .before .args .state .awaited .next), c .before .before .before .before .pre .1))
+returns-7 c = absurd (omega (arith, early _ (c .before .match .keys7), tag-place (c .before .before .before .args .awaited .next), c .before .before .before .pre .1))
 
 pub hear-transfer-spec : {M : Type 1} → statement M
 hear-transfer-spec =

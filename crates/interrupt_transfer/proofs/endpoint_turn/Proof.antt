@@ -27,16 +27,12 @@ cast-report c = search needs
 report-requires : tie.Need-report-requires
 report-requires c κs = search needs
 
-nothing-awaited-requires-2 : tie.Need-nothing-awaited-requires-2
-nothing-awaited-requires-2 c κs = search needs
-
 same-length : tie.Need-same-length
 same-length c = search needs
 
 returns-3 : tie.Need-returns-3
 returns-3 c =
-    let r = c .before .before .before .before .report .ensures in
-    rw (ne-eqb _ 0 (c .before .before .before .before .before .before .before .before .if1 .left), le-leb _ _ (c .before .before .before .before .before .before .before .if2 .left), c .before .before .before .before .before .before .if3 .taken) (r .0, (c .nothing-awaited2 .ensures, r .1))
+    rw (ne-eqb _ 0 (c .before .before .before .before .before .before .if1 .left), le-leb _ _ (c .before .before .before .before .before .if2 .left), c .before .before .before .before .if3 .taken) (c .before .before .report .ensures)
 
 cast-ask-chain : tie.Need-cast-ask-chain
 cast-ask-chain c = search needs
@@ -58,7 +54,6 @@ endpoint-turn-spec =
     returns-2
     cast-report
     report-requires
-    nothing-awaited-requires-2
     same-length
     returns-3
     cast-ask-chain
