@@ -87,7 +87,8 @@ __attribute__((noinline)) static int drive(int argc, char **argv) {
     if (argc < 4) return 2;
     mode = !strcmp(argv[1], "stack") ? STACK : !strcmp(argv[1], "copies") ? COPIED : COUNT;
     int calls = mode == COUNT && argc > 4 ? atoi(argv[4]) : 1;
-    /* for the Rust, which touches them: registers of the controller and the PHY, the start of flash */
+    /* for the Rust, which touches them: EP0's bytes, registers of the controller and the PHY, the start of flash */
+    map(0x200A0000, 0x1000);
     map(0x50034000, 0x1000);
     map(0x5003C000, 0x1000);
     map(0x08000000, 0x1000);

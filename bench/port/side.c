@@ -75,7 +75,7 @@ STATE_CALL(bus_power__power_off, Result, const List *, const State *, const Even
 STATE_CALL(bus_reset__bus_reset, Ended, const List *, uint64_t at, const State *);
 CALL(bus_events__raise, RaiseResult, const State *, const Events *, uint8_t event);
 CALL(bus_events__poll, PollResult, const State *, const Events *);
-STATE_CALL(interrupt__interrupt, InterruptResult, const List *, const State *, const Events *);
+STATE_CALL(interrupt_begin__interrupt, InterruptResult, const List *, const State *, const Events *);
 CALL(interrupt__answer, InterruptResult, const List *, const State *, const Events *, const Reading *);
 _Static_assert(sizeof(Reading) == interrupt__answer_arg4, "the layout of a reading");
 _Bool state_sound__sound(const State *, const Events *);
@@ -153,7 +153,7 @@ static void converse(State s, TransferStatus status, int followers, const Readin
     Reading flags = {LINK_FLAGS, {0}}, link = {LINK_STATUS, {0, 1, 0}}, transfer = {TRANSFER_STATUS, {0}};
     memcpy(transfer.bytes, &status, sizeof status);
     bench_on();
-    interrupt__interrupt(&r[0], &list, &s, &events);
+    interrupt_begin__interrupt(&r[0], &list, &s, &events);
     interrupt__answer(&r[1], &list, &r[0].state, &r[0].events, &flags);
     interrupt__answer(&r[2], &list, &r[1].state, &r[1].events, &link);
     interrupt__answer(&r[3], &list, &r[2].state, &r[2].events, &transfer);

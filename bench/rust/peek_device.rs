@@ -1,5 +1,5 @@
 //! Behind device.rs: its private functions that are counted, and the state, set back between calls.
-use super::{state, Bus, Inner, Phase, POWER, RESET};
+use super::{on_interrupt, state, Bus, Inner, Phase, POWER, RESET};
 use crate::pac::{BLOCK, BLOCK_BYTES};
 use crate::peripherals::USBSS;
 
@@ -28,6 +28,12 @@ pub const STATE_BYTES: usize = size_of::<Inner>();
 #[inline(never)]
 pub fn report(index: usize, incoming: bool) {
     with(|inner| inner.data_irq(index, incoming));
+}
+
+/// The handler of an interrupt.
+#[inline(never)]
+pub fn interrupt() {
+    unsafe { on_interrupt::<USBSS>() }
 }
 
 #[inline(never)]
@@ -59,6 +65,11 @@ pub fn set_events(reset: bool) {
 /// The pending events: power, reset.
 pub fn events() -> (bool, bool) {
     with(|inner| (inner.events & POWER != 0, inner.events & RESET != 0))
+}
+
+/// Whether a SETUP waits, and how many the control transfers so far are.
+pub fn setup() -> (bool, u32) {
+    with(|inner| (inner.setup.is_some(), inner.control_generation))
 }
 
 pub fn powered() -> bool {

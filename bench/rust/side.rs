@@ -167,6 +167,14 @@ fn chain_ended(packets: u8, last: u32) {
     rx.chain_len().write_value(regs::EpChainLen(last));
 }
 
+/// What the controller says at an interrupt in which the link has nothing to say: the transfer status, by bits of pac.rs.
+fn interrupted(status: u32) {
+    let device = USBSS::device();
+    device.link_int_flag().write_value(regs::LinkIntFlag(0));
+    device.link_status().write_value(regs::LinkStatus(0));
+    device.status().write_value(regs::Status(status));
+}
+
 #[no_mangle]
 extern "C" fn side_run(row: *const c_char) -> c_int {
     let row = unsafe { CStr::from_ptr(row) }.to_str().unwrap();
@@ -216,6 +224,31 @@ extern "C" fn side_run(row: *const c_char) -> c_int {
             chain_ended(8, 1024);
             counted(|| peek::report(one, no));
             assert_eq!(peek::slot(2), (true, false, 2, SHORT));
+        }
+        "irq_in_on" | "irq_in_done" => {
+            let on = row == "irq_in_on";
+            begun(&mut s.ins[1], if on { LONG } else { SHORT });
+            interrupted(0x181); // a transfer, IN 1
+            counted(peek::interrupt);
+            assert_eq!(peek::slot(3), (true, false, if on { 1 } else { 2 }, if on { LONG } else { SHORT }));
+        }
+        "irq_out_on" | "irq_out_done" => {
+            let on = row == "irq_out_on";
+            begun(&mut s.outs[1], if on { LONG } else { SHORT });
+            chain_ended(if on { 255 } else { 8 }, 1024);
+            interrupted(0x101); // a transfer, OUT 1
+            counted(peek::interrupt);
+            assert_eq!(peek::slot(2), (true, false, if on { 1 } else { 2 }, if on { LONG / 2 } else { SHORT }));
+        }
+        "irq_setup" => {
+            let (_, before) = peek::setup();
+            interrupted(0x002);
+            counted(peek::interrupt);
+            assert_eq!(peek::setup(), (true, before + 1));
+        }
+        "irq_status" => {
+            interrupted(0x004);
+            counted(peek::interrupt);
         }
         "take_busy" | "take_done" | "abandon_busy" | "abandon_idle" => {
             let endpoint = s.ins[1].as_mut().unwrap();

@@ -1,50 +1,29 @@
--- An interrupt as a conversation: begin, then a reading at a time (reference: `on_interrupt` of device.rs).
+-- A reading of an interrupt, handed in (reference: `on_interrupt` of device.rs).
 -- Assumes nothing.
 use Prim.Native.Nat.{ℕ}
 use mathlib.Core.Bool.{Bool, false, not, cond}
 use mathlib.Core.List.{List, [], _∷_}
 use lib.Dec.{leb}
 use Rattle.state.specs.declared.Awaiting.{Awaiting}
-use Rattle.state.specs.declared.Awaiting.the-variants as awaiting
-use Rattle.state.specs.declared.Awaited.{Awaited}
 use Rattle.state.specs.declared.Reading.{Reading}
 use Rattle.state.specs.declared.State.{State}
 use Rattle.state.specs.declared.Events.{Events}
 use Rattle.state.specs.declared.Refusal.the-variants.{OutOfRange}
 use Rattle.state.specs.Awaiting.{awaitingNumber}
-use Rattle.state.specs.Fresh.{nothingAwaited}
 use Rattle.state.specs.Numbers.{refusalNumber, readingInRange}
 use Rattle.state.specs.Refusals.{Condition, _if_, firstRefusal}
 use Rattle.state.specs.Setters.{Link, withLink}
-use Rattle.state_call.specs.Turn.{admitted, readingIn}
+use Rattle.state_call.specs.Turn.{readingIn}
 use Rattle.state_call.specs.Outcome.{Outcome, orElse, unless}
 use Rattle.bus_reset.specs.Reset.{busResetState}
 use Rattle.interrupt_link.specs.declared.LinkEffect.{LinkEffect}
 use Rattle.interrupt_asks.specs.declared.InterruptAnswer.{InterruptAnswer}
 use Rattle.interrupt_asks.specs.declared.InterruptAnswer.the-variants.{Refused}
-use Rattle.interrupt_asks.specs.Asking.{asked}
 use Rattle.interrupt_asks.specs.Settled.{settled}
 use Rattle.interrupt_transfer.specs.Transfers.{Turned}
 use Rattle.interrupt_readings.specs.Matched.{Matched, matchedAs, matchesb}
 use Rattle.interrupt_readings.specs.Heard.{LinkHeard, heardLink}
 use Rattle.interrupt_followers.specs.Followers.{heardTransfer}
-
--- ---- begin
-
-abbrev pub interruptConditions : ℕ → State → Events → List Condition
-interruptConditions room s v = admitted room s v []
-
--- the link's flags are read first; unpowered, nothing is
-abbrev pub firstAwaited : Bool → Awaited
-firstAwaited powered = cond powered (asked nothingAwaited awaiting.LinkFlags) nothingAwaited
-
-unfoldable pub interruptCall : ℕ → State → Events → Outcome InterruptAnswer
-interruptCall room s v = unless Refused (firstRefusal (interruptConditions room s v)) s v (settled s v (firstAwaited (s .powered)) [])
-
-abbrev pub interruptSays : ℕ → State → Events → List ℕ
-interruptSays room s v = orElse (firstRefusal (interruptConditions room s v)) (λ r. refusalNumber r ∷ []) (0 ∷ cond (s .powered) 1 0 ∷ [])
-
--- ---- a reading
 
 -- 10, 26, 24 of a reading that isn't the awaited one, 11
 abbrev pub answerConditions : ℕ → State → Events → Reading → List Condition

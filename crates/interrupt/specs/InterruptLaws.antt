@@ -8,15 +8,13 @@ use borrow.Author.Tests.{ltb-false, not-false}
 use lib.Dec.{leb}
 use Rattle.ops.specs.Ops.{listNumbers}
 use Rattle.ops.specs.Wrote.{Wrote}
-use Rattle.state.specs.declared.Awaiting.the-variants as awaiting
 use Rattle.state.specs.declared.Awaited.{Awaited}
 use Rattle.state.specs.declared.Reading.{Reading}
 use Rattle.state.specs.declared.State.{State}
 use Rattle.state.specs.declared.Events.{Events}
 use Rattle.state.specs.declared.Check.the-variants as check
 use Rattle.state.specs.declared.Refusal.{Refusal}
-use Rattle.state.specs.Awaiting.{awaitingNumber, awaitingb}
-use Rattle.state.specs.Fresh.{nothingAwaited}
+use Rattle.state.specs.Awaiting.{awaitingNumber}
 use Rattle.state.specs.Numbers.{refusalNumber}
 use Rattle.state.specs.Refusals.{Condition, firstRefusal, FirstIs, here, later, Bound}
 use Rattle.state.specs.RefusalsLaws.{bound, refused-if, none-due, not-due}
@@ -30,7 +28,7 @@ use Rattle.bus_reset.specs.Reset.{busResetState}
 use Rattle.control_report.specs.Ep0.{setupReceived}
 use Rattle.interrupt_link.specs.declared.LinkEffect.{LinkEffect}
 use Rattle.interrupt_asks.specs.declared.InterruptAnswer.{InterruptAnswer}
-use Rattle.interrupt_asks.specs.declared.InterruptAnswer.the-variants.{Refused, Awaits, Ended}
+use Rattle.interrupt_asks.specs.declared.InterruptAnswer.the-variants.{Refused}
 use Rattle.interrupt_asks.specs.Settled.{settled, interruptNumbers}
 use Rattle.interrupt_asks.specs.SettledLaws.{settled-numbers}
 use Rattle.interrupt_transfer.specs.declared.Sight.{Sight}
@@ -43,13 +41,10 @@ use Rattle.interrupt_followers.specs.Followers.{heardTransfer}
 use Rattle.interrupt_followers.specs.Pieces.{heardPieces, piecesTurned}
 use Rattle.interrupt_hear.specs.Hear.{slotsHeard, heardSlot, BothHeard, linkBoth, transferBoth, heardBy}
 use Rattle.interrupt_pieces.specs.PiecesLaws.{placed-own, pieces-same}
-use Rattle.interrupt.specs.Interrupt.{firstAwaited, interruptConditions, interruptCall, interruptSays, answerConditions, linkBefore, linkFlagsOf, linkAfter, linkSettled, transferSettled, answered, answerCall, nextAwaiting, answerSays}
+use Rattle.interrupt.specs.Interrupt.{answerConditions, linkBefore, linkFlagsOf, linkAfter, linkSettled, transferSettled, answered, answerCall, nextAwaiting, answerSays}
 use Rattle.interrupt.specs.Parts.{doorConditions, door, reacted, heardIn}
 
 -- Each refusal is given exactly where it is the first that is due, and none where none is.
-pub interrupt-bound : (room : ℕ) (s : State) (v : Events) → Bound (interruptConditions room s v) (firstRefusal (interruptConditions room s v))
-interrupt-bound room s v = bound (interruptConditions room s v)
-
 pub answer-bound : (room : ℕ) (s : State) (v : Events) (r : Reading) → Bound (answerConditions room s v r) (firstRefusal (answerConditions room s v r))
 answer-bound room s v r = bound (answerConditions room s v r)
 
@@ -146,42 +141,7 @@ module _ (room : ℕ) (s : State) (v : Events) (r : Reading) where
       → k ≡ i → l ≡ heardIn s v r .link → f ≡ heardIn s v r .transfer → a ≡ heardIn s v r .awaited → settled (reacted s k l f) (l .events) a (heardIn s v r .ops) ≡ answerCall room s v r
   heard-as k l f a d e p q t u = rw (p, q, t, u) (heard-settled d e)
 
-module _ (room : ℕ) (s : State) (v : Events) where
-  pub interrupt-refused : (q : Refusal) → firstRefusal (interruptConditions room s v) ≡ check.Refused q
-      → (Refused q ≡ interruptCall room s v .answer)
-      × ((s ≡ interruptCall room s v .state) × ((v ≡ interruptCall room s v .events) × (([] ≡ interruptCall room s v .ops) × (noWakes ≡ interruptCall room s v .wakes))))
-  unfolding interruptCall orElse
-  interrupt-refused q e = rw e (refl, (refl, (refl, (refl, refl))))
-
-  pub interrupt-settled : firstRefusal (interruptConditions room s v) ≡ check.Fits → settled s v (firstAwaited (s .powered)) [] ≡ interruptCall room s v
-  unfolding interruptCall orElse
-  interrupt-settled e = rw e
-
--- with power a reading is awaited, without none
-pub first-awaiting : (powered : Bool) → awaitingb (firstAwaited powered .next) ≡ powered
-first-awaiting true = refl
-first-awaiting false = refl
-
-pub first-said : (powered : Bool) → cond powered (Awaits awaiting.LinkFlags) Ended ≡ cond powered (Awaits (firstAwaited powered .next)) Ended
-first-said true = refl
-first-said false = refl
-
-pub first-left : (powered : Bool) → firstAwaited powered ≡ cond powered (firstAwaited powered) nothingAwaited
-first-left true = refl
-first-left false = refl
-
 -- The numbers of an answer are the paper's.
-pub interrupt-says : (room : ℕ) (s : State) (v : Events) → interruptNumbers (interruptCall room s v .answer) ≡ interruptSays room s v
-unfolding interruptCall
-interrupt-says room s v =
-    or-part (λ (o : Outcome InterruptAnswer). interruptNumbers (o .answer)) (firstRefusal (interruptConditions room s v)) (λ r. refusal (Refused r) s v) _
-    ∙ rw (settled-numbers s v (firstAwaited (s .powered)) []) (first-number (s .powered))
-  where
-    first-number : (powered : Bool) → orElse (firstRefusal (interruptConditions room s v)) (λ r. refusalNumber r ∷ []) (0 ∷ awaitingNumber (firstAwaited powered .next) ∷ [])
-        ≡ orElse (firstRefusal (interruptConditions room s v)) (λ r. refusalNumber r ∷ []) (0 ∷ cond powered 1 0 ∷ [])
-    first-number true = refl
-    first-number false = refl
-
 answered-numbers : (s : State) (v : Events) (m : Matched) → interruptNumbers (answered s v m .answer) ≡ 0 ∷ awaitingNumber (nextAwaiting s v m) ∷ []
 answered-numbers s v m = go (leb (awaitingNumber (s .awaited .next)) 6)
   where

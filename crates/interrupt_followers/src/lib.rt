@@ -1,14 +1,12 @@
-// The transfer status, and the readings behind it, by the slot that each is about (reference: `transfer_irq`, `ep0_irq` and
-// `data_irq` of device.rs).
+// Endpoint 0's readings behind the transfer status, by the slot that each is about (reference: `ep0_irq` of device.rs).
 ghost use mathlib.Core.Path.{_≡_};
 ghost use mathlib.Core.List.{[]};
-ghost use Prim.Native.Nat.{ℕ, _≤_, _<_};
+ghost use Prim.Native.Nat.{ℕ, _≤_};
 ghost use lib.ListN.{length};
 ghost use Rattle.ops.specs.Ops.{listNumbers};
 ghost use Rattle.ops.specs.Wrote.{Wrote};
 ghost use Rattle.state.specs.declared.Awaiting.the-variants as awaiting;
 ghost use Rattle.state.specs.declared.Check.the-variants.{Fits, Refused};
-ghost use Rattle.state.specs.Awaiting.{awaitingNumber};
 ghost use Rattle.state.specs.Fresh.{nothingAwaited};
 ghost use Rattle.state.specs.Refusals.{firstRefusal};
 ghost use Rattle.interrupt_transfer.specs.declared.Sight.{Sight};
@@ -16,10 +14,8 @@ ghost use Rattle.interrupt_readings.specs.Matched.{readingOwn};
 ghost use Rattle.interrupt_followers.specs.Pieces.{piecesTurned};
 use interrupt_transfer::Sight;
 use interrupt_transfer::TransferEffect;
-use interrupt_transfer::TransferTurn;
 use ops::numbers::*;
 use state::Awaited;
-use state::Awaiting;
 use state::Check;
 use state::EP0_SIZE;
 use state::Reading;
@@ -34,7 +30,7 @@ pub struct Turn {
 }
 
 // A refused reading: nothing is done, and the same one is still awaited.
-fn refused(refusal: Refusal, awaited: Awaited, effect: TransferEffect) -> Turn
+pub fn refused(refusal: Refusal, awaited: Awaited, effect: TransferEffect) -> Turn
     ensures check { λ r. ⌜ r .check ≡ Refused refusal ⌝ }
     ensures effect { λ r. ⌜ r .effect ≡ effect ⌝ }
     ensures awaited { λ r. ⌜ r .awaited ≡ awaited ⌝ }
@@ -45,22 +41,6 @@ fn refused(refusal: Refusal, awaited: Awaited, effect: TransferEffect) -> Turn
         effect: effect,
         awaited: awaited,
         end: 0,
-    }
-}
-
-fn accepted(turn: TransferTurn) -> Turn
-    ensures check { λ r. ⌜ r .check ≡ Fits ⌝ }
-    ensures effect { λ r. ⌜ r .effect ≡ turn .effect ⌝ }
-    ensures awaited { λ r. ⌜ r .awaited ≡ turn .awaited ⌝ }
-    ensures end { λ r. ⌜ r .end ≡ turn .end ⌝ }
-{
-    let effect = turn.effect;
-    let awaited = turn.awaited;
-    Turn {
-        check: Check::Fits,
-        effect: effect,
-        awaited: awaited,
-        end: turn.end,
     }
 }
 
@@ -80,31 +60,7 @@ fn over(effect: TransferEffect, end: usize) -> Turn
     }
 }
 
-fn on_transfer_status(
-    ops: &mut [u32],
-    sight: Sight,
-    awaited: Awaited,
-    i: usize,
-    effect: TransferEffect,
-    reading: Reading,
-) -> Turn
-    requires { ⌜ listNumbers ≤ length (now ops) ⌝ }
-    ensures check { λ r. ⌜ r .check ≡ firstRefusal (readingOwn awaiting.TransferStatus reading) ⌝ }
-    ensures effect { λ r. ⌜ r .effect ≡ piecesTurned sight awaited i effect awaiting.TransferStatus reading .effect ⌝ }
-    ensures awaited { λ r. ⌜ r .awaited ≡ piecesTurned sight awaited i effect awaiting.TransferStatus reading .awaited ⌝ }
-    ensures list { λ r. ⌜ Wrote (now (ops .entry)) 0 (piecesTurned sight awaited i effect awaiting.TransferStatus reading .ops) (r .end) (now (ops .exit)) ⌝ }
-{
-    let Reading::TransferStatus(status) = reading else {
-        return refused(Refusal::OutOfTurn, awaited, effect);
-    };
-    if 15 < status.ep_id {
-        return refused(Refusal::OutOfRange, awaited, effect);
-    }
-    let turn = interrupt_transfer::status_turn(ops, 0, sight, awaited, i, effect, status);
-    accepted(turn)
-}
-
-fn on_setup_bytes(awaited: Awaited, effect: TransferEffect, reading: Reading) -> Turn
+pub fn on_setup_bytes(awaited: Awaited, effect: TransferEffect, reading: Reading) -> Turn
     ensures check { λ r. ⌜ r .check ≡ firstRefusal (readingOwn awaiting.SetupBytes reading) ⌝ }
     ensures effect { λ r. ⌜ ((g : Sight) (i : ℕ) → r .effect ≡ piecesTurned g awaited i effect awaiting.SetupBytes reading .effect) ⌝ }
     ensures awaited { λ r. ⌜ ((g : Sight) (i : ℕ) → r .awaited ≡ piecesTurned g awaited i effect awaiting.SetupBytes reading .awaited) ⌝ }
@@ -120,7 +76,7 @@ fn on_setup_bytes(awaited: Awaited, effect: TransferEffect, reading: Reading) ->
     over(f, 0)
 }
 
-fn on_ep0_length(
+pub fn on_ep0_length(
     ops: &mut [u32],
     sight: Sight,
     awaited: Awaited,
@@ -150,7 +106,7 @@ fn on_ep0_length(
 }
 
 // Behind the last packet, or where no stage is under way, the status stage completes the slot.
-fn on_ep0_sequence(
+pub fn on_ep0_sequence(
     ops: &mut [u32],
     sight: Sight,
     awaited: Awaited,
@@ -182,88 +138,4 @@ fn on_ep0_sequence(
     }
     let done = interrupt_transfer::complete(1, f);
     over(done, end)
-}
-
-fn on_chain_packets(awaited: Awaited, effect: TransferEffect, reading: Reading) -> Turn
-    ensures check { λ r. ⌜ r .check ≡ firstRefusal (readingOwn awaiting.ChainPackets reading) ⌝ }
-    ensures effect { λ r. ⌜ ((g : Sight) (i : ℕ) → r .effect ≡ piecesTurned g awaited i effect awaiting.ChainPackets reading .effect) ⌝ }
-    ensures awaited { λ r. ⌜ ((g : Sight) (i : ℕ) → r .awaited ≡ piecesTurned g awaited i effect awaiting.ChainPackets reading .awaited) ⌝ }
-    ensures list { λ r. ⌜ ((g : Sight) (i : ℕ) → piecesTurned g awaited i effect awaiting.ChainPackets reading .ops ≡ []) ⌝ }
-    ensures end { λ r. ⌜ r .end ≡ 0 ⌝ }
-{
-    let Reading::ChainPackets(packets) = reading else {
-        return refused(Refusal::OutOfTurn, awaited, effect);
-    };
-    if 255 < packets {
-        return refused(Refusal::OutOfRange, awaited, effect);
-    }
-    let asks = interrupt_transfer::ask_last(awaited, packets as u8);
-    Turn {
-        check: Check::Fits,
-        effect: effect,
-        awaited: asks,
-        end: 0,
-    }
-}
-
-fn on_last_length(
-    ops: &mut [u32],
-    sight: Sight,
-    awaited: Awaited,
-    i: usize,
-    effect: TransferEffect,
-    reading: Reading,
-) -> Turn
-    requires { ⌜ listNumbers ≤ length (now ops) ⌝ }
-    ensures check { λ r. ⌜ r .check ≡ firstRefusal (readingOwn awaiting.LastLength reading) ⌝ }
-    ensures effect { λ r. ⌜ r .effect ≡ piecesTurned sight awaited i effect awaiting.LastLength reading .effect ⌝ }
-    ensures awaited { λ r. ⌜ r .awaited ≡ piecesTurned sight awaited i effect awaiting.LastLength reading .awaited ⌝ }
-    ensures list { λ r. ⌜ Wrote (now (ops .entry)) 0 (piecesTurned sight awaited i effect awaiting.LastLength reading .ops) (r .end) (now (ops .exit)) ⌝ }
-{
-    let Reading::LastLength(last) = reading else {
-        return refused(Refusal::OutOfTurn, awaited, effect);
-    };
-    if 65535 < last {
-        return refused(Refusal::OutOfRange, awaited, effect);
-    }
-    let turn = interrupt_transfer::report(
-        ops,
-        0,
-        sight,
-        i,
-        effect,
-        awaited.endpoint,
-        false,
-        awaited.packets as u32,
-        last,
-    );
-    accepted(turn)
-}
-
-// A reading while one of the transfers is awaited.
-pub fn hear_transfer(
-    ops: &mut [u32],
-    sight: Sight,
-    awaited: Awaited,
-    i: usize,
-    effect: TransferEffect,
-    reading: Reading,
-) -> Turn
-    requires room { ⌜ listNumbers ≤ length (now ops) ⌝ }
-    requires transfer { ⌜ 6 < awaitingNumber (awaited .next) ⌝ }
-    ensures check { λ r. ⌜ r .check ≡ firstRefusal (readingOwn (awaited .next) reading) ⌝ }
-    ensures effect { λ r. ⌜ r .effect ≡ piecesTurned sight awaited i effect (awaited .next) reading .effect ⌝ }
-    ensures awaited { λ r. ⌜ r .awaited ≡ piecesTurned sight awaited i effect (awaited .next) reading .awaited ⌝ }
-    ensures list { λ r. ⌜ Wrote (now (ops .entry)) 0 (piecesTurned sight awaited i effect (awaited .next) reading .ops) (r .end) (now (ops .exit)) ⌝ }
-{
-    let next = awaited.next;
-    match next {
-        Awaiting::TransferStatus => on_transfer_status(ops, sight, awaited, i, effect, reading),
-        Awaiting::SetupBytes => on_setup_bytes(awaited, effect, reading),
-        Awaiting::Ep0Length => on_ep0_length(ops, sight, awaited, i, effect, reading),
-        Awaiting::Ep0Sequence => on_ep0_sequence(ops, sight, awaited, i, effect, reading),
-        Awaiting::ChainPackets => on_chain_packets(awaited, effect, reading),
-        Awaiting::LastLength => on_last_length(ops, sight, awaited, i, effect, reading),
-        _ => refused(Refusal::OutOfTurn, awaited, effect),
-    }
 }

@@ -81,7 +81,7 @@ pub fn hear(
     let next = awaited.next;
     let place = state::readings::awaiting_number(next);
     if place <= 6 {
-        let turn = interrupt_readings::hear_link(ops, ep0, revision, awaited, link, reading);
+        let turn = interrupt_messages::hear_link(ops, ep0, revision, awaited, link, reading);
         let check = turn.check;
         let effect = turn.effect;
         let asks = turn.awaited;
@@ -93,7 +93,7 @@ pub fn hear(
             end: turn.end,
         };
     }
-    let turn = interrupt_followers::hear_transfer(ops, sight, awaited, i, transfer, reading);
+    let turn = interrupt_chains::hear_transfer(ops, sight, awaited, i, transfer, reading);
     let check = turn.check;
     let effect = turn.effect;
     let asks = turn.awaited;

@@ -34,7 +34,8 @@ use Rattle.interrupt_transfer.specs.Transfers.{over, asking, chainAsked, ep0Rea
 use Rattle.interrupt_readings.specs.Matched.{Matched, linkFlags, linkStatus, capability, termStatus, message, warmStatus, transferStatus, setupBytes, ep0Length, ep0Sequence, chainPackets, lastLength, matchedAs}
 use Rattle.interrupt_readings.specs.Heard.{seeing, fromChange, heardLink, statusHeard, capabilityDue}
 use Rattle.interrupt_followers.specs.Followers.{heardTransfer}
-use Rattle.interrupt.specs.Interrupt.{interruptConditions, interruptCall, firstAwaited, answerConditions, linkBefore, linkAfter, linkSettled, transferSettled, answered, answerCall}
+use Rattle.interrupt_begin.specs.Begin.{interruptConditions, interruptCall, firstAwaited}
+use Rattle.interrupt.specs.Interrupt.{answerConditions, linkBefore, linkAfter, linkSettled, transferSettled, answered, answerCall}
 use Rattle.interrupt_laws.specs.ReadingLaws.{EachReading, each-reading, answeredAt, tested-reading}
 use Rattle.interrupt_laws.specs.Conversation.{readingsLeft, Given, AllAccepted}
 

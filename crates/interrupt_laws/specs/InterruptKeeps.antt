@@ -51,7 +51,8 @@ use Rattle.interrupt_transfer.specs.Transfers.{Turned, over, asking, chainAsked
 use Rattle.interrupt_readings.specs.Matched.{Matched, matchedAs, linkFlags, capability, termStatus, message, warmStatus}
 use Rattle.interrupt_readings.specs.Heard.{LinkHeard, seeing, fromChange, statusHeard, capabilityDue, heardLink}
 use Rattle.interrupt_followers.specs.Followers.{heardTransfer}
-use Rattle.interrupt.specs.Interrupt.{interruptConditions, firstAwaited, interruptCall, answerConditions, linkBefore, linkFlagsOf, linkAfter, linkSettled, answered, answerCall}
+use Rattle.interrupt_begin.specs.Begin.{interruptConditions, firstAwaited, interruptCall}
+use Rattle.interrupt.specs.Interrupt.{answerConditions, linkBefore, linkFlagsOf, linkAfter, linkSettled, answered, answerCall}
 use Rattle.interrupt_laws.specs.ReadingLaws.{EachReading, each-reading, answeredAt, tested-reading}
 
 -- ---- the events

@@ -21,7 +21,8 @@ use Rattle.interrupt_asks.specs.Settled.{settled}
 use Rattle.interrupt_transfer.specs.Transfers.{statusTurn}
 use Rattle.interrupt_readings.specs.Heard.{heardLink}
 use Rattle.interrupt_followers.specs.Followers.{heardTransfer}
-use Rattle.interrupt.specs.Interrupt.{interruptCall, answerCall}
+use Rattle.interrupt_begin.specs.Begin.{interruptCall}
+use Rattle.interrupt.specs.Interrupt.{answerCall}
 use Rattle.interrupt_laws.specs.Conversation.{Given, AllAccepted}
 
 abbrev given : Reading → Given

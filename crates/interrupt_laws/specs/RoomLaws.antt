@@ -57,7 +57,8 @@ use Rattle.interrupt_transfer.specs.Transfers.{over, asking, chainAsked, ep0Rea
 use Rattle.interrupt_readings.specs.Matched.{Matched, other, linkFlags, linkStatus, capability, termStatus, message, warmStatus, transferStatus, setupBytes, ep0Length, ep0Sequence, chainPackets, lastLength, matchedAs}
 use Rattle.interrupt_readings.specs.Heard.{seeing, fromChange, capabilityDue, heardLink}
 use Rattle.interrupt_followers.specs.Followers.{heardTransfer}
-use Rattle.interrupt.specs.Interrupt.{interruptConditions, firstAwaited, interruptCall, answerConditions, linkBefore, linkAfter, linkSettled, transferSettled, answered, answerCall}
+use Rattle.interrupt_begin.specs.Begin.{interruptConditions, firstAwaited, interruptCall}
+use Rattle.interrupt.specs.Interrupt.{answerConditions, linkBefore, linkAfter, linkSettled, transferSettled, answered, answerCall}
 
 -- one list behind the other
 both-most : (x y : List Op) (m n : ℕ) → length (flat x) ≤ m → length (flat y) ≤ n → length (flat (x ++ y)) ≤ m + n

@@ -57,7 +57,7 @@ fn remember_state(awaited: Awaited, link_state: LinkState) -> Awaited
 }
 
 // A reading of another kind than the awaited one: nothing is done, and the same one is still awaited.
-fn out_of_turn(awaited: Awaited, effect: LinkEffect) -> LinkTurn
+pub fn out_of_turn(awaited: Awaited, effect: LinkEffect) -> LinkTurn
     ensures check { λ r. ⌜ r .check ≡ Refused OutOfTurn ⌝ }
     ensures effect { λ r. ⌜ r .effect ≡ effect ⌝ }
     ensures awaited { λ r. ⌜ r .awaited ≡ awaited ⌝ }
@@ -71,7 +71,7 @@ fn out_of_turn(awaited: Awaited, effect: LinkEffect) -> LinkTurn
     }
 }
 
-fn on_link_flags(awaited: Awaited, effect: LinkEffect, reading: Reading) -> LinkTurn
+pub fn on_link_flags(awaited: Awaited, effect: LinkEffect, reading: Reading) -> LinkTurn
     ensures check { λ r. ⌜ r .check ≡ firstRefusal (readingOwn awaiting.LinkFlags reading) ⌝ }
     ensures effect { λ r. ⌜ ((e v : ℕ) → r .effect ≡ linkTurned e v awaited effect awaiting.LinkFlags reading .effect) ⌝ }
     ensures awaited { λ r. ⌜ ((e v : ℕ) → r .awaited ≡ linkTurned e v awaited effect awaiting.LinkFlags reading .awaited) ⌝ }
@@ -106,7 +106,7 @@ fn from_change(
     ensures list { λ r. ⌜ Wrote (now (ops .entry)) at (fromChange ep0 awaited «link_state» effect [] .ops) (r .end) (now (ops .exit)) ⌝ }
 {
     let flags = awaited.flags;
-    let acted = interrupt_link::state_changed(
+    let acted = interrupt_change::state_changed(
         ops,
         at,
         ep0,
@@ -126,7 +126,7 @@ fn from_change(
     }
 }
 
-fn on_link_status(
+pub fn on_link_status(
     ops: &mut [u32],
     ep0: u32,
     revision: u8,
@@ -158,7 +158,7 @@ fn on_link_status(
     from_change(ops, 0, ep0, seen, link_state, effect)
 }
 
-fn on_port_capability(
+pub fn on_port_capability(
     ops: &mut [u32],
     ep0: u32,
     awaited: Awaited,
@@ -177,117 +177,4 @@ fn on_port_capability(
     let link_state = awaited.link_state;
     let a = regs_link::link_power_allow(ops, 0, allow);
     from_change(ops, a, ep0, awaited, link_state, effect)
-}
-
-fn on_term_status(
-    ops: &mut [u32],
-    awaited: Awaited,
-    effect: LinkEffect,
-    reading: Reading,
-) -> LinkTurn
-    requires { ⌜ listNumbers ≤ length (now ops) ⌝ }
-    ensures check { λ r. ⌜ r .check ≡ firstRefusal (readingOwn awaiting.TermPresStatus reading) ⌝ }
-    ensures effect { λ r. ⌜ ((e v : ℕ) → r .effect ≡ linkTurned e v awaited effect awaiting.TermPresStatus reading .effect) ⌝ }
-    ensures awaited { λ r. ⌜ ((e v : ℕ) → r .awaited ≡ linkTurned e v awaited effect awaiting.TermPresStatus reading .awaited) ⌝ }
-    ensures list { λ r. ⌜ ((e v : ℕ) → Wrote (now (ops .entry)) 0 (linkTurned e v awaited effect awaiting.TermPresStatus reading .ops) (r .end) (now (ops .exit))) ⌝ }
-{
-    let Reading::LinkStatus(status) = reading else {
-        return out_of_turn(awaited, effect);
-    };
-    let after = interrupt_link::term_status(status.link_rx_term_pres, effect);
-    let flags = awaited.flags;
-    let asked = interrupt_asks::behind_term(ops, 0, flags);
-    let next = asked.next;
-    let asks = interrupt_asks::ask(awaited, next);
-    LinkTurn {
-        check: Check::Fits,
-        effect: after,
-        awaited: asks,
-        end: asked.end,
-    }
-}
-
-fn on_message_word(
-    ops: &mut [u32],
-    revision: u8,
-    awaited: Awaited,
-    effect: LinkEffect,
-    reading: Reading,
-) -> LinkTurn
-    requires { ⌜ listNumbers ≤ length (now ops) ⌝ }
-    ensures check { λ r. ⌜ r .check ≡ firstRefusal (readingOwn awaiting.MessageWord reading) ⌝ }
-    ensures effect { λ r. ⌜ ((e : ℕ) → r .effect ≡ linkTurned e revision awaited effect awaiting.MessageWord reading .effect) ⌝ }
-    ensures awaited { λ r. ⌜ ((e : ℕ) → r .awaited ≡ linkTurned e revision awaited effect awaiting.MessageWord reading .awaited) ⌝ }
-    ensures list { λ r. ⌜ ((e : ℕ) → Wrote (now (ops .entry)) 0 (linkTurned e revision awaited effect awaiting.MessageWord reading .ops) (r .end) (now (ops .exit))) ⌝ }
-{
-    let Reading::MessageWord(word) = reading else {
-        return out_of_turn(awaited, effect);
-    };
-    let a = interrupt_link::message(ops, 0, revision, word);
-    let flags = awaited.flags;
-    let asked = interrupt_asks::behind_message(ops, a, flags);
-    let next = asked.next;
-    let asks = interrupt_asks::ask(awaited, next);
-    LinkTurn {
-        check: Check::Fits,
-        effect: effect,
-        awaited: asks,
-        end: asked.end,
-    }
-}
-
-fn on_warm_status(
-    ops: &mut [u32],
-    ep0: u32,
-    awaited: Awaited,
-    effect: LinkEffect,
-    reading: Reading,
-) -> LinkTurn
-    requires { ⌜ listNumbers ≤ length (now ops) ⌝ }
-    ensures check { λ r. ⌜ r .check ≡ firstRefusal (readingOwn awaiting.WarmResetStatus reading) ⌝ }
-    ensures effect { λ r. ⌜ ((v : ℕ) → r .effect ≡ linkTurned ep0 v awaited effect awaiting.WarmResetStatus reading .effect) ⌝ }
-    ensures awaited { λ r. ⌜ ((v : ℕ) → r .awaited ≡ linkTurned ep0 v awaited effect awaiting.WarmResetStatus reading .awaited) ⌝ }
-    ensures list { λ r. ⌜ ((v : ℕ) → Wrote (now (ops .entry)) 0 (linkTurned ep0 v awaited effect awaiting.WarmResetStatus reading .ops) (r .end) (now (ops .exit))) ⌝ }
-{
-    let Reading::LinkStatus(status) = reading else {
-        return out_of_turn(awaited, effect);
-    };
-    let acted = interrupt_link::warm_status(ops, 0, ep0, status.link_rx_warm_rst, effect);
-    let asks = interrupt_asks::ask(awaited, Awaiting::TransferStatus);
-    let after = acted.effect;
-    LinkTurn {
-        check: Check::Fits,
-        effect: after,
-        awaited: asks,
-        end: acted.end,
-    }
-}
-
-// A reading while one of the link's, or none, is awaited.
-pub fn hear_link(
-    ops: &mut [u32],
-    ep0: u32,
-    revision: u8,
-    awaited: Awaited,
-    effect: LinkEffect,
-    reading: Reading,
-) -> LinkTurn
-    requires room { ⌜ listNumbers ≤ length (now ops) ⌝ }
-    requires link { ⌜ awaitingNumber (awaited .next) ≤ 6 ⌝ }
-    ensures check { λ r. ⌜ r .check ≡ firstRefusal (readingOwn (awaited .next) reading) ⌝ }
-    ensures effect { λ r. ⌜ r .effect ≡ linkTurned ep0 revision awaited effect (awaited .next) reading .effect ⌝ }
-    ensures awaited { λ r. ⌜ r .awaited ≡ linkTurned ep0 revision awaited effect (awaited .next) reading .awaited ⌝ }
-    ensures list { λ r. ⌜ Wrote (now (ops .entry)) 0 (linkTurned ep0 revision awaited effect (awaited .next) reading .ops) (r .end) (now (ops .exit)) ⌝ }
-{
-    let next = awaited.next;
-    match next {
-        Awaiting::Nothing => out_of_turn(awaited, effect),
-        Awaiting::LinkFlags => on_link_flags(awaited, effect, reading),
-        Awaiting::LinkStatus => on_link_status(ops, ep0, revision, awaited, effect, reading),
-        Awaiting::PortCapability => on_port_capability(ops, ep0, awaited, effect, reading),
-        Awaiting::TermPresStatus => on_term_status(ops, awaited, effect, reading),
-        Awaiting::MessageWord => on_message_word(ops, revision, awaited, effect, reading),
-        Awaiting::WarmResetStatus => on_warm_status(ops, ep0, awaited, effect, reading),
-        _ => out_of_turn(awaited, effect),
-    }
 }

@@ -16,7 +16,7 @@ pub fn call(list: &mut [u32; 640], world: World, word: Word, line: &[u8]) -> Wor
 fn begin(list: &mut [u32; 640], world: World) -> World {
     let state = world.state;
     let events = world.events;
-    let result = interrupt::interrupt(list, state, events);
+    let result = interrupt_begin::interrupt(list, state, events);
     tool_print::operations(list, result.end);
     told(world, result)
 }

@@ -53,7 +53,7 @@ fn reported(list: &mut [u32; 640], world: World, line: &[u8]) -> World {
 fn begin(list: &mut [u32; 640], world: World) -> World {
     let state = world.state;
     let events = world.events;
-    let result = interrupt::interrupt(list, state, events);
+    let result = interrupt_begin::interrupt(list, state, events);
     left(world, result)
 }
 

@@ -1,0 +1,162 @@
+// The transfer status and the readings of a chain, and which reading of the transfers is heard (reference: `transfer_irq` and
+// `data_irq` of device.rs).
+ghost use mathlib.Core.Path.{_≡_};
+ghost use mathlib.Core.List.{[]};
+ghost use Prim.Native.Nat.{ℕ, _≤_, _<_};
+ghost use lib.ListN.{length};
+ghost use Rattle.ops.specs.Ops.{listNumbers};
+ghost use Rattle.ops.specs.Wrote.{Wrote};
+ghost use Rattle.state.specs.declared.Awaiting.the-variants as awaiting;
+ghost use Rattle.state.specs.declared.Check.the-variants.{Fits};
+ghost use Rattle.state.specs.Awaiting.{awaitingNumber};
+ghost use Rattle.state.specs.Refusals.{firstRefusal};
+ghost use Rattle.interrupt_transfer.specs.declared.Sight.{Sight};
+ghost use Rattle.interrupt_readings.specs.Matched.{readingOwn};
+ghost use Rattle.interrupt_followers.specs.Pieces.{piecesTurned};
+use interrupt_followers::Turn;
+use interrupt_transfer::Sight;
+use interrupt_transfer::TransferEffect;
+use interrupt_transfer::TransferTurn;
+use state::Awaited;
+use state::Awaiting;
+use state::Check;
+use state::Reading;
+use state::Refusal;
+
+fn accepted(turn: TransferTurn) -> Turn
+    ensures check { λ r. ⌜ r .check ≡ Fits ⌝ }
+    ensures effect { λ r. ⌜ r .effect ≡ turn .effect ⌝ }
+    ensures awaited { λ r. ⌜ r .awaited ≡ turn .awaited ⌝ }
+    ensures end { λ r. ⌜ r .end ≡ turn .end ⌝ }
+{
+    let effect = turn.effect;
+    let awaited = turn.awaited;
+    Turn {
+        check: Check::Fits,
+        effect: effect,
+        awaited: awaited,
+        end: turn.end,
+    }
+}
+
+fn on_transfer_status(
+    ops: &mut [u32],
+    sight: Sight,
+    awaited: Awaited,
+    i: usize,
+    effect: TransferEffect,
+    reading: Reading,
+) -> Turn
+    requires { ⌜ listNumbers ≤ length (now ops) ⌝ }
+    ensures check { λ r. ⌜ r .check ≡ firstRefusal (readingOwn awaiting.TransferStatus reading) ⌝ }
+    ensures effect { λ r. ⌜ r .effect ≡ piecesTurned sight awaited i effect awaiting.TransferStatus reading .effect ⌝ }
+    ensures awaited { λ r. ⌜ r .awaited ≡ piecesTurned sight awaited i effect awaiting.TransferStatus reading .awaited ⌝ }
+    ensures list { λ r. ⌜ Wrote (now (ops .entry)) 0 (piecesTurned sight awaited i effect awaiting.TransferStatus reading .ops) (r .end) (now (ops .exit)) ⌝ }
+{
+    let Reading::TransferStatus(status) = reading else {
+        return interrupt_followers::refused(Refusal::OutOfTurn, awaited, effect);
+    };
+    if 15 < status.ep_id {
+        return interrupt_followers::refused(Refusal::OutOfRange, awaited, effect);
+    }
+    let turn = interrupt_transfer::status_turn(ops, 0, sight, awaited, i, effect, status);
+    accepted(turn)
+}
+
+fn on_chain_packets(awaited: Awaited, effect: TransferEffect, reading: Reading) -> Turn
+    ensures check { λ r. ⌜ r .check ≡ firstRefusal (readingOwn awaiting.ChainPackets reading) ⌝ }
+    ensures effect { λ r. ⌜ ((g : Sight) (i : ℕ) → r .effect ≡ piecesTurned g awaited i effect awaiting.ChainPackets reading .effect) ⌝ }
+    ensures awaited { λ r. ⌜ ((g : Sight) (i : ℕ) → r .awaited ≡ piecesTurned g awaited i effect awaiting.ChainPackets reading .awaited) ⌝ }
+    ensures list { λ r. ⌜ ((g : Sight) (i : ℕ) → piecesTurned g awaited i effect awaiting.ChainPackets reading .ops ≡ []) ⌝ }
+    ensures end { λ r. ⌜ r .end ≡ 0 ⌝ }
+{
+    let Reading::ChainPackets(packets) = reading else {
+        return interrupt_followers::refused(Refusal::OutOfTurn, awaited, effect);
+    };
+    if 255 < packets {
+        return interrupt_followers::refused(Refusal::OutOfRange, awaited, effect);
+    }
+    let asks = interrupt_transfer::ask_last(awaited, packets as u8);
+    Turn {
+        check: Check::Fits,
+        effect: effect,
+        awaited: asks,
+        end: 0,
+    }
+}
+
+fn on_last_length(
+    ops: &mut [u32],
+    sight: Sight,
+    awaited: Awaited,
+    i: usize,
+    effect: TransferEffect,
+    reading: Reading,
+) -> Turn
+    requires { ⌜ listNumbers ≤ length (now ops) ⌝ }
+    ensures check { λ r. ⌜ r .check ≡ firstRefusal (readingOwn awaiting.LastLength reading) ⌝ }
+    ensures effect { λ r. ⌜ r .effect ≡ piecesTurned sight awaited i effect awaiting.LastLength reading .effect ⌝ }
+    ensures awaited { λ r. ⌜ r .awaited ≡ piecesTurned sight awaited i effect awaiting.LastLength reading .awaited ⌝ }
+    ensures list { λ r. ⌜ Wrote (now (ops .entry)) 0 (piecesTurned sight awaited i effect awaiting.LastLength reading .ops) (r .end) (now (ops .exit)) ⌝ }
+{
+    let Reading::LastLength(last) = reading else {
+        return interrupt_followers::refused(Refusal::OutOfTurn, awaited, effect);
+    };
+    if 65535 < last {
+        return interrupt_followers::refused(Refusal::OutOfRange, awaited, effect);
+    }
+    let turn = interrupt_transfer::report(
+        ops,
+        0,
+        sight,
+        i,
+        effect,
+        awaited.endpoint,
+        false,
+        awaited.packets as u32,
+        last,
+    );
+    accepted(turn)
+}
+
+// A reading while one of the transfers is awaited.
+pub fn hear_transfer(
+    ops: &mut [u32],
+    sight: Sight,
+    awaited: Awaited,
+    i: usize,
+    effect: TransferEffect,
+    reading: Reading,
+) -> Turn
+    requires room { ⌜ listNumbers ≤ length (now ops) ⌝ }
+    requires transfer { ⌜ 6 < awaitingNumber (awaited .next) ⌝ }
+    ensures check { λ r. ⌜ r .check ≡ firstRefusal (readingOwn (awaited .next) reading) ⌝ }
+    ensures effect { λ r. ⌜ r .effect ≡ piecesTurned sight awaited i effect (awaited .next) reading .effect ⌝ }
+    ensures awaited { λ r. ⌜ r .awaited ≡ piecesTurned sight awaited i effect (awaited .next) reading .awaited ⌝ }
+    ensures list { λ r. ⌜ Wrote (now (ops .entry)) 0 (piecesTurned sight awaited i effect (awaited .next) reading .ops) (r .end) (now (ops .exit)) ⌝ }
+{
+    let next = awaited.next;
+    match next {
+        Awaiting::TransferStatus => on_transfer_status(ops, sight, awaited, i, effect, reading),
+        Awaiting::SetupBytes => interrupt_followers::on_setup_bytes(awaited, effect, reading),
+        Awaiting::Ep0Length => interrupt_followers::on_ep0_length(
+            ops,
+            sight,
+            awaited,
+            i,
+            effect,
+            reading,
+        ),
+        Awaiting::Ep0Sequence => interrupt_followers::on_ep0_sequence(
+            ops,
+            sight,
+            awaited,
+            i,
+            effect,
+            reading,
+        ),
+        Awaiting::ChainPackets => on_chain_packets(awaited, effect, reading),
+        Awaiting::LastLength => on_last_length(ops, sight, awaited, i, effect, reading),
+        _ => interrupt_followers::refused(Refusal::OutOfTurn, awaited, effect),
+    }
+}
