@@ -13,7 +13,7 @@ use Rattle.state.specs.Setters.{withSetup, withSequence, withStage}
 use Rattle.state_slots.specs.Slots.{busyb, movedSlot}
 use Rattle.state_slots.specs.Completing.{complete, completeAs}
 use Rattle.regs_control.specs.Control.{ep0TxClearOps, ep0RxClearOps, ep0RxReadyOps, ep0TxAnswerOps, ep0RxAnswerOps, statusAckOps, addressOps}
-use Rattle.bus_reset.specs.Reset.{controlReset}
+use Rattle.bus_reset.specs.Reset.{controlReset, busResetState}
 
 -- a SETUP: both directions are cleared and its flag acknowledged before its bytes are read
 abbrev pub setupOps : List Op
@@ -22,6 +22,10 @@ setupOps = ep0TxClearOps ++ (ep0RxClearOps ++ statusAckOps number.udif-setup)
 -- its bytes end the control transfer in hand, and wait to be fetched
 abbrev pub setupReceived : State → Setup → State
 setupReceived s bytes = withSetup (controlReset s) bytes
+
+-- a bus reset, or the bytes of a SETUP, which reset the control transfer
+abbrev pub resetBy : Bool → State → Setup → State
+resetBy bus s bytes = cond bus (busResetState s) (setupReceived s bytes)
 
 -- the status stage (USB 3.2, 9.4.6: an address takes hold behind it): the address that waits is written, if one does,
 abbrev pub statusOps : Bool → ℕ → List Op

@@ -8,7 +8,7 @@ ghost use lib.ListN.{length as listLength};
 ghost use Rattle.ops.specs.Ops.{records};
 ghost use Rattle.ops.specs.Wrote.{Wrote};
 ghost use Rattle.regs_control.specs.Control.{addressOps};
-ghost use Rattle.control_report.specs.Ep0.{setupOps, setupReceived, statusOps, receivedSlot, sequenceOps};
+ghost use Rattle.control_report.specs.Ep0.{setupOps, setupReceived, resetBy, statusOps, receivedSlot, sequenceOps};
 use ops::numbers::*;
 use state::Setup;
 use state::Slot;
@@ -33,6 +33,16 @@ pub fn setup_received(state: State, setup: Setup) -> State
     s.has_setup = true;
     s.setup = setup;
     s
+}
+
+// A bus reset, or the bytes of a SETUP, which reset the control transfer.
+pub fn reset_by(bus: bool, state: State, setup: Setup) -> State
+    ensures { λ r. ⌜ r ≡ resetBy bus state setup ⌝ }
+{
+    if bus {
+        return bus_reset::reset_state(state);
+    }
+    setup_received(state, setup)
 }
 
 // The address that waits for the status stage.

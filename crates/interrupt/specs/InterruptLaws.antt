@@ -42,7 +42,8 @@ use Rattle.interrupt_followers.specs.Pieces.{heardPieces, piecesTurned}
 use Rattle.interrupt_hear.specs.Hear.{slotsHeard, heardSlot, BothHeard, linkBoth, transferBoth, heardBy}
 use Rattle.interrupt_pieces.specs.PiecesLaws.{placed-own, pieces-same}
 use Rattle.interrupt.specs.Interrupt.{answerConditions, linkBefore, linkFlagsOf, linkAfter, linkSettled, transferSettled, answered, answerCall, nextAwaiting, answerSays}
-use Rattle.interrupt.specs.Parts.{doorConditions, door, reacted, heardIn}
+use Rattle.interrupt_begin.specs.Begin.{doorConditions, door}
+use Rattle.interrupt.specs.Parts.{reacted, heardIn}
 
 -- Each refusal is given exactly where it is the first that is due, and none where none is.
 pub answer-bound : (room : ℕ) (s : State) (v : Events) (r : Reading) → Bound (answerConditions room s v r) (firstRefusal (answerConditions room s v r))
@@ -137,9 +138,9 @@ module _ (room : ℕ) (s : State) (v : Events) (r : Reading) where
           rw (transfer-reacted s v i (both false .transfer), k .state, k .awaited, k .ops)
 
   -- the same of what was heard, under other names
-  pub heard-as : (k : ℕ) (l : LinkEffect) (f : TransferEffect) (a : Awaited) → door room (soundb s v) ≡ check.Fits → firstRefusal (readingOwn (s .awaited .next) r) ≡ check.Fits
+  pub settled-as : (k : ℕ) (l : LinkEffect) (f : TransferEffect) (a : Awaited) → door room (soundb s v) ≡ check.Fits → firstRefusal (readingOwn (s .awaited .next) r) ≡ check.Fits
       → k ≡ i → l ≡ heardIn s v r .link → f ≡ heardIn s v r .transfer → a ≡ heardIn s v r .awaited → settled (reacted s k l f) (l .events) a (heardIn s v r .ops) ≡ answerCall room s v r
-  heard-as k l f a d e p q t u = rw (p, q, t, u) (heard-settled d e)
+  settled-as k l f a d e p q t u = rw (p, q, t, u) (heard-settled d e)
 
 -- The numbers of an answer are the paper's.
 answered-numbers : (s : State) (v : Events) (m : Matched) → interruptNumbers (answered s v m .answer) ≡ 0 ∷ awaitingNumber (nextAwaiting s v m) ∷ []

@@ -1,37 +1,18 @@
 -- The parts that the code of `answer` is made of. That they come to `answerCall` is shown in `InterruptLaws`.
 -- Assumes nothing.
 use Prim.Native.Nat.{ℕ}
-use mathlib.Core.Bool.{Bool, not, _||_, cond}
-use mathlib.Core.List.{List, [], _∷_}
-use lib.Dec.{ltb}
-use Rattle.ops.specs.Ops.{listNumbers}
-use Rattle.state.specs.declared.Setup.{Setup}
+use mathlib.Core.Bool.{_||_, cond}
 use Rattle.state.specs.declared.State.{State}
 use Rattle.state.specs.declared.Events.{Events}
 use Rattle.state.specs.declared.Reading.{Reading}
-use Rattle.state.specs.declared.Check.{Check}
-use Rattle.state.specs.declared.Refusal.the-variants.{ListTooShort, Unsound}
-use Rattle.state.specs.Refusals.{Condition, _if_, firstRefusal}
 use Rattle.state.specs.Setters.{withLink}
 use Rattle.transfer_window.specs.Window.{inHandCount, windowOf}
-use Rattle.bus_reset.specs.Reset.{busResetState}
-use Rattle.control_report.specs.Ep0.{setupReceived}
+use Rattle.control_report.specs.Ep0.{resetBy}
 use Rattle.interrupt_link.specs.declared.LinkEffect.{LinkEffect}
 use Rattle.interrupt_transfer.specs.declared.TransferEffect.{TransferEffect}
 use Rattle.interrupt_transfer.specs.Pieces.{sightOf, piecesOf, placed}
 use Rattle.interrupt_hear.specs.Hear.{slotsHeard, heardSlot, BothHeard, heardBy}
 use Rattle.interrupt.specs.Interrupt.{linkBefore, linkFlagsOf}
-
--- 10 and 26, before the reading is looked at
-abbrev pub doorConditions : ℕ → Bool → List Condition → List Condition
-doorConditions room good own = ListTooShort if ltb room listNumbers ∷ Unsound if not good ∷ own
-
-abbrev pub door : ℕ → Bool → Check
-door room good = firstRefusal (doorConditions room good [])
-
--- a bus reset, or the bytes of a SETUP, which reset the control transfer
-abbrev pub resetBy : Bool → State → Setup → State
-resetBy bus s bytes = cond bus (busResetState s) (setupReceived s bytes)
 
 -- the pieces stored back, with slot i, and behind them what resets
 abbrev pub reacted : State → ℕ → LinkEffect → TransferEffect → State

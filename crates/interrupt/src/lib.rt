@@ -3,7 +3,6 @@
 ghost use mathlib.Core.Path.{_≡_};
 ghost use lib.ListN.{length};
 ghost use Rattle.ops.specs.Wrote.{Wrote};
-ghost use Rattle.interrupt.specs.Parts.{door, resetBy};
 ghost use Rattle.interrupt_asks.specs.Settled.{interruptNumbers};
 ghost use Rattle.interrupt.specs.Interrupt.{answerCall, answerSays};
 use interrupt_asks::InterruptResult;
@@ -13,28 +12,8 @@ use interrupt_transfer::TransferEffect;
 use state::Check;
 use state::Events;
 use state::Reading;
-use state::Refusal;
-use state::Setup;
 use state::State;
 use transfer_chain::CHAIN_PACKETS;
-
-// 10 and 26, before a reading is looked at.
-fn is_open(room: usize, good: bool) -> Check
-    ensures { λ r. ⌜ r ≡ door room good ⌝ }
-{
-    let sound = state::refusals::refuse_if(!good, Refusal::Unsound, Check::Fits);
-    state::refusals::refuse_if(room < ops::LIST_NUMBERS, Refusal::ListTooShort, sound)
-}
-
-// A bus reset, or the bytes of a SETUP, which reset the control transfer.
-fn reset_by(bus: bool, state: State, setup: Setup) -> State
-    ensures { λ r. ⌜ r ≡ resetBy bus state setup ⌝ }
-{
-    if bus {
-        return bus_reset::reset_state(state);
-    }
-    control_report::setup_received(state, setup)
-}
 
 // Hands a reading in. Its slot and what else it looks at are taken out of the state, and stored back where they lie.
 pub fn answer(ops: &mut [u32], state: State, events: Events, reading: Reading) -> InterruptResult
@@ -47,7 +26,7 @@ pub fn answer(ops: &mut [u32], state: State, events: Events, reading: Reading) -
 {
     let mut s = state;
     let good = state_sound::sound(s, events);
-    let open = is_open(ops.len(), good);
+    let open = interrupt_begin::is_open(ops.len(), good);
     if let Check::Refused(refusal) = open {
         return interrupt_begin::refused(refusal, s, events);
     }
@@ -110,7 +89,7 @@ pub fn answer(ops: &mut [u32], state: State, events: Events, reading: Reading) -
     s.tx_seq = transfer.tx_seq;
     if link.resets | transfer.received {
         let bytes = transfer.setup;
-        s = reset_by(link.resets, s, bytes);
+        s = control_report::reset_by(link.resets, s, bytes);
     }
     let asks = heard.awaited;
     let next = asks.next;

@@ -1,11 +1,11 @@
-// An interrupt begun (reference: `on_interrupt` of device.rs).
+// An interrupt begun, and what its readings share with it (reference: `on_interrupt` of device.rs).
 ghost use mathlib.Core.Path.{_≡_};
 ghost use lib.ListN.{length};
 ghost use Rattle.ops.specs.Wrote.{Wrote};
 ghost use Rattle.state_slots.specs.Waking.{noWakes};
 ghost use Rattle.interrupt_asks.specs.declared.InterruptAnswer.the-variants.{Refused};
 ghost use Rattle.interrupt_asks.specs.Settled.{interruptNumbers};
-ghost use Rattle.interrupt_begin.specs.Begin.{firstAwaited, interruptCall, interruptSays};
+ghost use Rattle.interrupt_begin.specs.Begin.{firstAwaited, interruptCall, interruptSays, door};
 use interrupt_asks::InterruptAnswer;
 use interrupt_asks::InterruptResult;
 use state::Awaited;
@@ -73,4 +73,12 @@ pub fn interrupt(ops: &mut [u32], state: State, events: Events) -> InterruptResu
         end: 0,
         wakes: wakes,
     }
+}
+
+// 10 and 26, before a reading is looked at.
+pub fn is_open(room: usize, good: bool) -> Check
+    ensures { λ r. ⌜ r ≡ door room good ⌝ }
+{
+    let sound = state::refusals::refuse_if(!good, Refusal::Unsound, Check::Fits);
+    state::refusals::refuse_if(room < ops::LIST_NUMBERS, Refusal::ListTooShort, sound)
 }

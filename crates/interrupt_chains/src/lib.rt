@@ -105,7 +105,7 @@ fn on_last_length(
     if 65535 < last {
         return interrupt_followers::refused(Refusal::OutOfRange, awaited, effect);
     }
-    let turn = interrupt_transfer::report(
+    let turn = interrupt_transfer::report_pieces(
         ops,
         0,
         sight,

@@ -17,7 +17,7 @@ use Rattle.control_report.specs.Ep0.{receivedSlot, lengthOps, sequenceOps}
 use Rattle.interrupt_transfer.specs.declared.Sight.{Sight}
 use Rattle.interrupt_transfer.specs.declared.TransferEffect.{TransferEffect}
 use Rattle.interrupt_transfer.specs.Transfers.{lastAsked}
-use Rattle.interrupt_transfer.specs.Pieces.{PiecesTurned, turnedTo, completed, reportPieces, statusPieces}
+use Rattle.interrupt_transfer.specs.Pieces.{PiecesTurned, turnedTo, completedPieces, reportPieces, statusPieces}
 use Rattle.interrupt_readings.specs.Matched.{Matched, other, linkFlags, linkStatus, capability, termStatus, message, warmStatus, transferStatus, setupBytes, ep0Length, ep0Sequence, chainPackets, lastLength, matchedAs, readingOwn}
 
 -- a SETUP has come
@@ -36,7 +36,7 @@ abbrev pub followsPieces : Sight → TransferEffect → Bool
 followsPieces g f = g .«in_last» || not (busyb (f .slot .phase))
 
 abbrev pub sequencePieces : Bool → TransferEffect → TransferEffect
-sequencePieces follows f = cond follows f (completed 1 f)
+sequencePieces follows f = cond follows f (completedPieces 1 f)
 
 unfoldable pub heardPieces : Sight → Awaited → ℕ → TransferEffect → Matched → PiecesTurned
 heardPieces g a i f other = turnedTo f a []
@@ -48,7 +48,7 @@ heardPieces g a i f (message w) = turnedTo f a []
 heardPieces g a i f (warmStatus r) = turnedTo f a []
 heardPieces g a i f (transferStatus t) = statusPieces g a i f t
 heardPieces g a i f (setupBytes b) = turnedTo (withBytes f b) nothingAwaited []
-heardPieces g a i f (ep0Length n) = turnedTo (completed 0 (withReceived f n)) nothingAwaited lengthOps
+heardPieces g a i f (ep0Length n) = turnedTo (completedPieces 0 (withReceived f n)) nothingAwaited lengthOps
 heardPieces g a i f (ep0Sequence q) = turnedTo (sequencePieces (followsPieces g f) (withNumber f q)) nothingAwaited (sequenceOps (followsPieces g f))
 heardPieces g a i f (chainPackets p) = turnedTo f (lastAsked a p) []
 heardPieces g a i f (lastLength n) = reportPieces g i f (a .endpoint) false (a .packets) n

@@ -101,7 +101,7 @@ pub fn on_ep0_length(
     let slot = f.slot;
     let y = control_report::received_slot(slot, length);
     f.slot = y;
-    let done = interrupt_transfer::complete(0, f);
+    let done = interrupt_transfer::complete_pieces(0, f);
     over(done, end)
 }
 
@@ -136,6 +136,6 @@ pub fn on_ep0_sequence(
     if follows {
         return over(f, end);
     }
-    let done = interrupt_transfer::complete(1, f);
+    let done = interrupt_transfer::complete_pieces(1, f);
     over(done, end)
 }

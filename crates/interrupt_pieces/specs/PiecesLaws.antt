@@ -30,7 +30,7 @@ use Rattle.transfer_report.specs.Report.{slotsCounted, reportState, reportOps}
 use Rattle.transfer_report.specs.ReportLaws.{stored-after, list-after, list-in}
 use Rattle.control_report.specs.Ep0.{setupReceived, statusFollows, sequenceOps, packetSent}
 use Rattle.interrupt_transfer.specs.Transfers.{Turned, over, asking, statusTurn}
-use Rattle.interrupt_transfer.specs.Pieces.{sightOf, piecesOf, placed, afterPieces, statusSlot, PiecesTurned, turnedTo, completed, reportPieces, statusPieces}
+use Rattle.interrupt_transfer.specs.Pieces.{sightOf, piecesOf, placed, afterPieces, statusSlot, PiecesTurned, turnedTo, completedPieces, reportPieces, statusPieces}
 use Rattle.interrupt_readings.specs.Matched.{Matched, other, linkFlags, linkStatus, capability, termStatus, message, warmStatus, transferStatus, setupBytes, ep0Length, ep0Sequence, chainPackets, lastLength, matchedAs}
 use Rattle.interrupt_followers.specs.Followers.{unturned, heardTransfer}
 use Rattle.interrupt_followers.specs.Pieces.{withNumber, sequencePieces, followsPieces, heardPieces}

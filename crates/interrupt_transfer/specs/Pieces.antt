@@ -69,8 +69,8 @@ abbrev pub turnedTo : TransferEffect → Awaited → List Op → PiecesTurned
 turnedTo f a ops = record { effect = f; awaited = a; ops = ops }
 
 -- slot i is done, if it is busy
-abbrev pub completed : ℕ → TransferEffect → TransferEffect
-completed i f =
+abbrev pub completedPieces : ℕ → TransferEffect → TransferEffect
+completedPieces i f =
     record {
       slot = completedSlot (f .slot);
       wake = completedWake i (f .slot) (f .wake);
@@ -81,8 +81,8 @@ completed i f =
     }
 
 -- and no address waits
-abbrev pub settledAddress : TransferEffect → TransferEffect
-settledAddress f = record { slot = f .slot; wake = f .wake; «has_address» = false; «tx_seq» = f .«tx_seq»; received = f .received; setup = f .setup }
+abbrev pub withoutAddress : TransferEffect → TransferEffect
+withoutAddress f = record { slot = f .slot; wake = f .wake; «has_address» = false; «tx_seq» = f .«tx_seq»; received = f .received; setup = f .setup }
 
 -- the end of a chain of slot i
 abbrev pub stepped : ℕ → ℕ → TransferEffect → Bool → Step → TransferEffect
@@ -108,7 +108,7 @@ endpointPieces g a i f e incoming =
 
 unfoldable pub statusPieces : Sight → Awaited → ℕ → TransferEffect → TransferStatus → PiecesTurned
 statusPieces g a i f t =
-    cond (t .«udif_status») (turnedTo (settledAddress (completed 1 f)) nothingAwaited (statusOps (f .«has_address») (g .address)))
+    cond (t .«udif_status») (turnedTo (withoutAddress (completedPieces 1 f)) nothingAwaited (statusOps (f .«has_address») (g .address)))
     (cond (t .«udif_setup») (turnedTo f (asked a awaiting.SetupBytes) setupOps)
     (cond (t .«uif_transfer») (endpointPieces g a i f (t .«ep_id») (t .«ep_dir»))
     (turnedTo f nothingAwaited (statusOthersOps (t .«uif_itp») (t .«uif_rx_ping») (t .«uif_fifo_txov») (t .«uif_fifo_rxov»)))))

@@ -5,7 +5,7 @@ ghost use lib.ListN.{length};
 ghost use Rattle.ops.specs.Ops.{records};
 ghost use Rattle.ops.specs.Wrote.{Wrote};
 ghost use Rattle.interrupt_transfer.specs.Transfers.{chainAsked, lastAsked, ep0Reading};
-ghost use Rattle.interrupt_transfer.specs.Pieces.{completed, reportPieces, endpointPieces, statusPieces};
+ghost use Rattle.interrupt_transfer.specs.Pieces.{completedPieces, reportPieces, endpointPieces, statusPieces};
 use state::Awaited;
 use state::Awaiting;
 use state::Setup;
@@ -77,8 +77,8 @@ pub fn ask_last(awaited: Awaited, packets: u8) -> Awaited
 }
 
 // The transfer of slot i is done, if it is busy.
-pub fn complete(i: usize, effect: TransferEffect) -> TransferEffect
-    ensures { λ r. ⌜ r ≡ completed i effect ⌝ }
+pub fn complete_pieces(i: usize, effect: TransferEffect) -> TransferEffect
+    ensures { λ r. ⌜ r ≡ completedPieces i effect ⌝ }
 {
     let mut f = effect;
     let slot = f.slot;
@@ -90,7 +90,7 @@ pub fn complete(i: usize, effect: TransferEffect) -> TransferEffect
 }
 
 // The end of a chain of slot i: its flag is acknowledged, then the transfer goes on or is done.
-pub fn report(
+pub fn report_pieces(
     ops: &mut [u32],
     at: usize,
     sight: Sight,
@@ -167,7 +167,7 @@ fn endpoint_turn(
         };
     }
     if incoming {
-        return report(ops, at, sight, i, effect, index as u8, true, 0, 0);
+        return report_pieces(ops, at, sight, i, effect, index as u8, true, 0, 0);
     }
     let asks = ask_chain(awaited, index as u8);
     TransferTurn {
@@ -193,7 +193,7 @@ pub fn status_turn(
 {
     if status.udif_status {
         let end = control_report::status_stage(ops, at, effect.has_address, sight.address);
-        let mut f = complete(1, effect);
+        let mut f = complete_pieces(1, effect);
         f.has_address = false;
         let nothing = state::fresh::nothing_awaited();
         return TransferTurn {

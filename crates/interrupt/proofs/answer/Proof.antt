@@ -21,8 +21,10 @@ use Rattle.interrupt_asks.specs.SettledLaws.{settled-parts}
 use Rattle.interrupt_readings.specs.Matched.{readingOwn}
 use Rattle.interrupt_transfer.specs.Pieces.{placed}
 use Rattle.interrupt_hear.specs.Hear.{slotsHeard, heardSlot}
-use Rattle.interrupt.specs.Parts.{door, resetBy, reacted, heardIn}
-use Rattle.interrupt.specs.InterruptLaws.{wide, unwritten, answer-refused, reading-refused, heard-as, answer-says}
+use Rattle.control_report.specs.Ep0.{resetBy}
+use Rattle.interrupt_begin.specs.Begin.{door}
+use Rattle.interrupt.specs.Parts.{reacted, heardIn}
+use Rattle.interrupt.specs.InterruptLaws.{wide, unwritten, answer-refused, reading-refused, settled-as, answer-says}
 use borrow.Author.Needs.{needs}
 use Rattle.interrupt.proofs.answer.Statement.{statement}
 use Rattle.interrupt.proofs.answer.Tie as tie
@@ -211,7 +213,7 @@ returns-3 c =
     let w = c .before .before .before .before .before .is-awaiting .ensures in
     let l = heardIn (a .state) (a .events) (a .reading) .ops in
     let p = settled-parts (reacted (a .state) (i .result) (r .link) (r .transfer)) (r .link .events) (r .awaited) l in
-    let q = heard-as (length (now (a .ops))) (a .state) (a .events) (a .reading) (i .result) (r .link) (r .transfer) (r .awaited) (checked (c .before .before .before .before .before .before .before .before .before .before .before .before .before .before .before .before .before .before .before .before .before .before .before .before .before .before .before .before .before) ∙ c .before .before .before .before .before .before .before .before .before .before .before .before .before .before .before .before .before .before .before .before .before .before .before .before .before .before .before .enum-told .given .1) (sym (h .0) ∙ c .before .before .before .before .before .before .before .before .before .before .before .before .before .enum-told2 .given .1) (i .ensures .1) (h .1 .0) (h .1 .1 .0) (h .1 .1 .1 .0) in
+    let q = settled-as (length (now (a .ops))) (a .state) (a .events) (a .reading) (i .result) (r .link) (r .transfer) (r .awaited) (checked (c .before .before .before .before .before .before .before .before .before .before .before .before .before .before .before .before .before .before .before .before .before .before .before .before .before .before .before .before .before) ∙ c .before .before .before .before .before .before .before .before .before .before .before .before .before .before .before .before .before .before .before .before .before .before .before .before .before .before .before .enum-told .given .1) (sym (h .0) ∙ c .before .before .before .before .before .before .before .before .before .before .before .before .before .enum-told2 .given .1) (i .ensures .1) (h .1 .0) (h .1 .1 .0) (h .1 .1 .1 .0) in
     let said = rw w at (c .before .before .said .ensures) ∙ p .0 ∙ ap (λ (o : Outcome InterruptAnswer). o .answer) q in (
       said,
       (

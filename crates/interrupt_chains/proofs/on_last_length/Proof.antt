@@ -30,11 +30,11 @@ returns-2 c =
     let o = c .refused2 .ensures in
     rw (c .before .before .before .reading .given .1, lt-leb _ _ (c .before .if1 .taken)) (o .0, (o .1 .0, (o .1 .1 .0, rw (o .1 .1 .1) (none _ 0))))
 
-cast-report : tie.Need-cast-report
-cast-report c = search needs
+cast-report-pieces : tie.Need-cast-report-pieces
+cast-report-pieces c = search needs
 
-report-requires : tie.Need-report-requires
-report-requires c κs = search needs
+report-pieces-requires : tie.Need-report-pieces-requires
+report-pieces-requires c κs = search needs
 
 accepted-requires : tie.Need-accepted-requires
 accepted-requires c κs = search needs
@@ -46,7 +46,7 @@ returns-3 : tie.Need-returns-3
 unfolding piecesTurned orElse heardPieces
 returns-3 c =
     let x = c .accepted .ensures in
-    let t = c .before .before .before .report .ensures in
+    let t = c .before .before .before .report-pieces .ensures in
     rw (c .before .before .before .before .before .before .before .before .reading .given .1, le-leb _ _ (c .before .before .before .before .before .before .if1 .left)) (x .0, (x .1 .0 ∙ t .0, (x .1 .1 .0 ∙ t .1 .0, rw (x .1 .1 .1) (t .1 .1))))
 
 pub on-last-length-spec : {M : Type 1} → statement M
@@ -58,8 +58,8 @@ on-last-length-spec =
     returns
     refused-requires-2
     returns-2
-    cast-report
-    report-requires
+    cast-report-pieces
+    report-pieces-requires
     accepted-requires
     same-length
     returns-3)

@@ -36,8 +36,8 @@ ep0-rx-answer-requires c κs = search needs
 received-slot-requires : tie.Need-received-slot-requires
 received-slot-requires c κs = search needs
 
-complete-requires : tie.Need-complete-requires
-complete-requires c κs = search needs
+complete-pieces-requires : tie.Need-complete-pieces-requires
+complete-pieces-requires c κs = search needs
 
 over-requires : tie.Need-over-requires
 over-requires c κs = search needs
@@ -50,7 +50,7 @@ unfolding piecesTurned orElse heardPieces
 returns-3 c =
     let x = c .over .ensures in
     let t = c .before .before .before .before .before .before .ep0-rx-answer .ensures in
-    rw (c .before .before .before .before .before .before .before .before .before .before .reading .given .1, le-leb _ _ (c .before .before .before .before .before .before .before .before .if1 .left)) (x .0, (rw (x .1 .0, c .before .complete .ensures, c .before .before .received-slot .ensures), (x .1 .1 .0, rw (x .1 .1 .1) t)))
+    rw (c .before .before .before .before .before .before .before .before .before .before .reading .given .1, le-leb _ _ (c .before .before .before .before .before .before .before .before .if1 .left)) (x .0, (rw (x .1 .0, c .before .complete-pieces .ensures, c .before .before .received-slot .ensures), (x .1 .1 .0, rw (x .1 .1 .1) t)))
 
 pub on-ep0-length-spec : {M : Type 1} → statement M
 on-ep0-length-spec =
@@ -63,7 +63,7 @@ on-ep0-length-spec =
     returns-2
     ep0-rx-answer-requires
     received-slot-requires
-    complete-requires
+    complete-pieces-requires
     over-requires
     same-length
     returns-3)

@@ -53,8 +53,8 @@ returns-3 c =
     let taken = c .before .if2 .taken in
     rw (c .before .before .before .before .before .before .before .before .before .before .before .reading .given .1, le-leb _ _ (c .before .before .before .before .before .before .before .before .before .if1 .left), rw (busy .ensures) at taken) (x .0, (x .1 .0, (x .1 .1 .0, rw (x .1 .1 .1) (rw taken at (c .before .before .before .before .answer-packet .ensures)))))
 
-complete-requires : tie.Need-complete-requires
-complete-requires c κs = search needs
+complete-pieces-requires : tie.Need-complete-pieces-requires
+complete-pieces-requires c κs = search needs
 
 over-requires-2 : tie.Need-over-requires-2
 over-requires-2 c κs = search needs
@@ -68,7 +68,7 @@ returns-4 c =
     let x = c .over2 .ensures in
     let busy = c .before .before .before .before .before .before .before .before .is-busy in
     let left = c .before .before .if2 .left in
-    rw (c .before .before .before .before .before .before .before .before .before .before .before .before .reading .given .1, le-leb _ _ (c .before .before .before .before .before .before .before .before .before .before .if1 .left), rw (busy .ensures) at left) (x .0, (x .1 .0 ∙ c .before .complete .ensures, (x .1 .1 .0, rw (x .1 .1 .1) (rw left at (c .before .before .before .before .before .answer-packet .ensures)))))
+    rw (c .before .before .before .before .before .before .before .before .before .before .before .before .reading .given .1, le-leb _ _ (c .before .before .before .before .before .before .before .before .before .before .if1 .left), rw (busy .ensures) at left) (x .0, (x .1 .0 ∙ c .before .complete-pieces .ensures, (x .1 .1 .0, rw (x .1 .1 .1) (rw left at (c .before .before .before .before .before .answer-packet .ensures)))))
 
 pub on-ep0-sequence-spec : {M : Type 1} → statement M
 on-ep0-sequence-spec =
@@ -85,7 +85,7 @@ on-ep0-sequence-spec =
     over-requires
     same-length
     returns-3
-    complete-requires
+    complete-pieces-requires
     over-requires-2
     same-length-2
     returns-4)

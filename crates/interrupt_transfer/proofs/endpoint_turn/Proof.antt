@@ -21,18 +21,18 @@ nothing-awaited-requires c κs = search needs
 returns-2 : tie.Need-returns-2
 returns-2 c = rw (ne-eqb _ 0 (c .before .before .if1 .left), lt-leb _ _ (c .before .if2 .taken)) (refl, (c .nothing-awaited .ensures, none _ _))
 
-cast-report : tie.Need-cast-report
-cast-report c = search needs
+cast-report-pieces : tie.Need-cast-report-pieces
+cast-report-pieces c = search needs
 
-report-requires : tie.Need-report-requires
-report-requires c κs = search needs
+report-pieces-requires : tie.Need-report-pieces-requires
+report-pieces-requires c κs = search needs
 
 same-length : tie.Need-same-length
 same-length c = search needs
 
 returns-3 : tie.Need-returns-3
 returns-3 c =
-    rw (ne-eqb _ 0 (c .before .before .before .before .before .before .if1 .left), le-leb _ _ (c .before .before .before .before .before .if2 .left), c .before .before .before .before .if3 .taken) (c .before .before .report .ensures)
+    rw (ne-eqb _ 0 (c .before .before .before .before .before .before .if1 .left), le-leb _ _ (c .before .before .before .before .before .if2 .left), c .before .before .before .before .if3 .taken) (c .before .before .report-pieces .ensures)
 
 cast-ask-chain : tie.Need-cast-ask-chain
 cast-ask-chain c = search needs
@@ -52,8 +52,8 @@ endpoint-turn-spec =
     returns
     nothing-awaited-requires
     returns-2
-    cast-report
-    report-requires
+    cast-report-pieces
+    report-pieces-requires
     same-length
     returns-3
     cast-ask-chain

@@ -8,8 +8,8 @@ use Rattle.interrupt_transfer.proofs.status_turn.Tie as tie
 status-stage-requires : tie.Need-status-stage-requires
 status-stage-requires c κs = search needs
 
-complete-requires : tie.Need-complete-requires
-complete-requires c κs = search needs
+complete-pieces-requires : tie.Need-complete-pieces-requires
+complete-pieces-requires c κs = search needs
 
 nothing-awaited-requires : tie.Need-nothing-awaited-requires
 nothing-awaited-requires c κs = search needs
@@ -21,7 +21,7 @@ returns : tie.Need-returns
 unfolding statusPieces
 returns c =
     let s = c .before .before .before .before in
-    rw (s .before .before .if1 .taken) (rw (c .before .complete .ensures), (c .nothing-awaited .ensures, s .status-stage .ensures))
+    rw (s .before .before .if1 .taken) (rw (c .before .complete-pieces .ensures), (c .nothing-awaited .ensures, s .status-stage .ensures))
 
 setup-flag-requires : tie.Need-setup-flag-requires
 setup-flag-requires c κs = search needs
@@ -64,7 +64,7 @@ status-turn-spec =
     tie.close
     (tie.spec
     status-stage-requires
-    complete-requires
+    complete-pieces-requires
     nothing-awaited-requires
     same-length
     returns

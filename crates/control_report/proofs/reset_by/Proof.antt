@@ -1,7 +1,7 @@
 -- The bus, or the control transfer. Assumes nothing.
 use borrow.Author.Needs.{needs}
-use Rattle.interrupt.proofs.reset_by.Statement.{statement}
-use Rattle.interrupt.proofs.reset_by.Tie as tie
+use Rattle.control_report.proofs.reset_by.Statement.{statement}
+use Rattle.control_report.proofs.reset_by.Tie as tie
 
 reset-state-requires : tie.Need-reset-state-requires
 reset-state-requires c κs = search needs

@@ -2,8 +2,8 @@
 use mathlib.Core.Path.{refl}
 use Rattle.ops.specs.WroteLaws.{_▹_}
 use borrow.Author.Needs.{needs}
-use Rattle.interrupt_transfer.proofs.report.Statement.{statement}
-use Rattle.interrupt_transfer.proofs.report.Tie as tie
+use Rattle.interrupt_transfer.proofs.report_pieces.Statement.{statement}
+use Rattle.interrupt_transfer.proofs.report_pieces.Tie as tie
 
 chain-ack-requires : tie.Need-chain-ack-requires
 chain-ack-requires c κs = search needs
@@ -23,7 +23,7 @@ returns c =
     let e = f .report-slot .ensures in
     (rw (e .0, e .1 .0), (c .nothing-awaited .ensures, f .before .before .before .before .chain-ack .ensures ▹ e .1 .1))
 
-pub report-spec : {M : Type 1} → statement M
-report-spec =
+pub report-pieces-spec : {M : Type 1} → statement M
+report-pieces-spec =
     tie.close
     (tie.spec chain-ack-requires report-slot-requires nothing-awaited-requires same-length returns)

@@ -1,8 +1,8 @@
 -- Two conditions. Assumes nothing.
 use mathlib.Core.Path.{_∙_}
 use borrow.Author.Needs.{needs}
-use Rattle.interrupt.proofs.is_open.Statement.{statement}
-use Rattle.interrupt.proofs.is_open.Tie as tie
+use Rattle.interrupt_begin.proofs.is_open.Statement.{statement}
+use Rattle.interrupt_begin.proofs.is_open.Tie as tie
 
 refuse-if-requires : tie.Need-refuse-if-requires
 refuse-if-requires c κs = search needs
