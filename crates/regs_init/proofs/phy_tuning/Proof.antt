@@ -1,8 +1,8 @@
 -- The operations of the six calls, one after the other. Assumes nothing.
 use Rattle.ops.specs.WroteLaws.{_▹_}
 use borrow.Author.Needs.{needs}
-use Rattle.regs_link.proofs.phy_tuning.Statement.{statement}
-use Rattle.regs_link.proofs.phy_tuning.Tie as tie
+use Rattle.regs_init.proofs.phy_tuning.Statement.{statement}
+use Rattle.regs_init.proofs.phy_tuning.Tie as tie
 
 phy-write-requires : tie.Need-phy-write-requires
 phy-write-requires c κs = search needs

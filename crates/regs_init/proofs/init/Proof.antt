@@ -1,8 +1,8 @@
 -- The operations of the two calls, one after the other. Assumes nothing.
 use Rattle.ops.specs.WroteLaws.{_▹_}
 use borrow.Author.Needs.{needs}
-use Rattle.regs_link.proofs.init.Statement.{statement}
-use Rattle.regs_link.proofs.init.Tie as tie
+use Rattle.regs_init.proofs.init.Statement.{statement}
+use Rattle.regs_init.proofs.init.Tie as tie
 
 link-up-requires : tie.Need-link-up-requires
 link-up-requires c κs = search needs
