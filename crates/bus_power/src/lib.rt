@@ -77,7 +77,7 @@ pub fn power_on(ops: &mut [u32], state: State, events: Events, revision: u32) ->
             wakes: wakes,
         };
     }
-    let a = regs_link::init(ops, 0, revision);
+    let a = regs_init::init(ops, 0, revision);
     let reset = bus_reset::bus_reset(ops, a, state);
     let mut s = reset.state;
     s.revision = revision as u8;

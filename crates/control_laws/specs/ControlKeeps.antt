@@ -19,9 +19,15 @@ use Rattle.state_call.specs.Turn.{admitted, inTurn}
 use Rattle.state_call.specs.OutcomeLaws.{passed, passed-turn}
 use Rattle.transfer_take.specs.declared.TakeAnswer.the-variants as answer
 use Rattle.control_stage.specs.declared.StageAnswer.the-variants as stage
-use Rattle.control_stage.specs.Stage.{ep0Unfit, servedb, stagedSlot, begun, unanswered, inStage, acceptOps, dataOutConditions, dataOutCall, dataInConditions, dataInCall, acceptConditions, acceptCall, addressConditions, acceptAddressCall, rejectConditions, rejectCall}
-use Rattle.control_take.specs.declared.SetupAnswer.the-variants as setup
-use Rattle.control_take.specs.Take.{doneb, idleSlot, setupConditions, setupCall, takeInConditions, takeInCall, takeOutConditions, takeOutCall}
+use Rattle.control_stage.specs.Stage.{ep0Unfit, servedb, stagedSlot, begun, unanswered, inStage}
+use Rattle.control_out.specs.DataOut.{dataOutConditions, dataOutCall}
+use Rattle.control_in.specs.DataIn.{dataInConditions, dataInCall}
+use Rattle.control_accept.specs.Accept.{acceptOps, acceptConditions, acceptCall, addressConditions, acceptAddressCall}
+use Rattle.control_reject.specs.Reject.{rejectConditions, rejectCall}
+use Rattle.control_setup.specs.declared.SetupAnswer.the-variants as setup
+use Rattle.control_setup.specs.Setup.{setupConditions, setupCall}
+use Rattle.control_take.specs.Take.{doneb, idleSlot, takeInConditions, takeInCall}
+use Rattle.control_take_out.specs.TakeOut.{takeOutConditions, takeOutCall}
 use Rattle.control_laws.specs.KeptLaws.{KeepsAll, KeepsWorld, call-keeps, all-same, all-either, all-control, all-stage, all-ep0}
 
 -- ---- what a call does where it is accepted

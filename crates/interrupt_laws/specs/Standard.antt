@@ -7,7 +7,7 @@ use mathlib.Core.Path.{_≡_}
 use lib.Dec.{eqb, ltb}
 use Rattle.ops.specs.Ops.{Op}
 use Rattle.regs_link.specs.Link.{linkPowerAllowOps, txPortCapOps, txPortCfgResOps, txCapVldOps, u2TimerOps}
-use Rattle.control_stage.specs.Stage.{nextSequence}
+use Rattle.control_in.specs.DataIn.{nextSequence}
 
 -- ---- link management packets
 

@@ -23,7 +23,8 @@ use Rattle.state_slots.specs.Completing.{completeAt}
 use Rattle.state_call.specs.OutcomeLaws.{accepted, keeps}
 use Rattle.control_report.specs.Ep0.{statusFollows, packetSent}
 use Rattle.control_stage.specs.declared.StageAnswer.the-variants as stage
-use Rattle.control_stage.specs.Stage.{ep0Unfit, nextSequence, dataInConditions, dataInCall}
+use Rattle.control_stage.specs.Stage.{ep0Unfit}
+use Rattle.control_in.specs.DataIn.{nextSequence, dataInConditions, dataInCall}
 use Rattle.interrupt_asks.specs.declared.InterruptAnswer.the-variants.{Refused}
 use Rattle.interrupt_asks.specs.Settled.{settled}
 use Rattle.interrupt_readings.specs.Matched.{matchedAs}

@@ -8,7 +8,8 @@ use Rattle.ops.specs.Sequence.{upTo}
 use Rattle.ops.specs.Ops.{Op, write, modify, wait, _≔_}
 use Rattle.regs_endpoint.specs.Endpoint.{clearOps}
 use Rattle.regs_control.specs.Control.{ep0TxClearOps, ep0RxReadyOps, addressOps}
-use Rattle.regs_link.specs.Link.{initOps, linkPowerAllowOps}
+use Rattle.regs_link.specs.Link.{linkPowerAllowOps}
+use Rattle.regs_init.specs.Init.{initOps}
 
 -- resets the protocol and the link layer, with the link held down meanwhile
 abbrev pub shutdownOps : List Op

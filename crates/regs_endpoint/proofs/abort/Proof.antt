@@ -16,7 +16,9 @@ same-length : tie.Need-same-length
 same-length c = search needs
 
 returns : tie.Need-returns
-returns c = record { end = search needs; list = cc }
+returns c =
+    let stored = c .before .before .append .ensures in
+    record { end = stored .end; list = rw (c .before .before .before .before .before .bank-of .ensures) at (stored .list) }
 
 pub abort-spec : {M : Type 1} → statement M
 abort-spec =

@@ -9,7 +9,7 @@ is-pending-requires : tie.Need-is-pending-requires
 is-pending-requires c κs = positive _ (c .pre)
 
 returns : tie.Need-returns
-returns c = cc
+returns c = rw (sym (c .before .is-pending .ensures) ∙ c .if1 .taken)
 
 add-result : tie.Need-add-result
 add-result c =
@@ -18,7 +18,7 @@ add-result c =
     omega (arith, fits (omega arith))
 
 returns-2 : tie.Need-returns-2
-returns-2 c = cc
+returns-2 c = rw (sym (c .before .is-pending .ensures) ∙ c .if1 .left)
 
 pub with-event-spec : {M : Type 1} → statement M
 with-event-spec = tie.close (tie.spec is-pending-requires returns add-result returns-2)

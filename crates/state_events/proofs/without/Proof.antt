@@ -20,7 +20,8 @@ returns : tie.Need-returns
 returns c = search needs
 
 returns-2 : tie.Need-returns-2
-returns-2 c = cc
+returns-2 c =
+    rw (c .before .before .before .pending .given .1) (rw (c .before .event-number .ensures) at (c .without-event .ensures))
 
 pub without-spec : {M : Type 1} → statement M
 without-spec =

@@ -11,10 +11,10 @@ sub-result : tie.Need-sub-result
 sub-result c = least _ _ (c .before .before .pre) (sym (c .before .is-pending .ensures) ∙ c .if1 .taken)
 
 returns : tie.Need-returns
-returns c = cc
+returns c = rw (sym (c .before .is-pending .ensures) ∙ c .if1 .taken)
 
 returns-2 : tie.Need-returns-2
-returns-2 c = cc
+returns-2 c = rw (sym (c .before .is-pending .ensures) ∙ c .if1 .left)
 
 pub without-event-spec : {M : Type 1} → statement M
 without-event-spec = tie.close (tie.spec is-pending-requires sub-result returns returns-2)

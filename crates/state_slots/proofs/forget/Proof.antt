@@ -10,7 +10,7 @@ count-cut-requires : tie.Need-count-cut-requires
 count-cut-requires c κs = search needs
 
 returns : tie.Need-returns
-returns c = cc
+returns c = rw (c .before .before .count-cut .ensures, c .before .before .before .before .is-idle .ensures)
 
 pub forget-spec : {M : Type 1} → statement M
 forget-spec = tie.close (tie.spec is-idle-requires count-cut-requires returns)

@@ -40,7 +40,16 @@ add-t13 : tie.Need-add-t13
 add-t13 c = search needs
 
 returns : tie.Need-returns
-returns c = cc
+returns c =
+    rw (
+      c .before .min3 .ensures,
+      c .before .before .min2 .ensures,
+      c .before .before .before .saturating-sub2 .ensures,
+      c .before .before .before .before .min .ensures,
+      c .before .before .before .before .before .max .ensures,
+      c .before .before .before .before .before .before .chain-packets .ensures,
+      c .before .before .before .before .before .before .before .saturating-sub .ensures,
+    )
 
 pub after-report-spec : {M : Type 1} → statement M
 after-report-spec =

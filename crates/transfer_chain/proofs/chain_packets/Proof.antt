@@ -15,7 +15,7 @@ min-requires c κs = search needs
 
 returns : tie.Need-returns
 unfolding chainPackets
-returns c = cc
+returns c = rw (c .min .ensures, c .before .max .ensures, c .before .before .div-ceil .ensures)
 
 pub chain-packets-spec : {M : Type 1} → statement M
 chain-packets-spec =

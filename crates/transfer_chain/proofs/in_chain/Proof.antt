@@ -42,7 +42,16 @@ add-t12 c = search needs
 
 returns : tie.Need-returns
 unfolding chainBytes
-returns c = cc
+returns c =
+    rw (
+      c .before .choose .ensures,
+      c .before .before .wrapping-add-u32 .ensures,
+      c .before .before .before .saturating-sub3 .ensures,
+      c .before .before .before .before .saturating-sub2 .ensures,
+      c .before .before .before .before .before .min .ensures,
+      c .before .before .before .before .before .before .chain-packets .ensures,
+      c .before .before .before .before .before .before .before .saturating-sub .ensures,
+    )
 
 pub in-chain-spec : {M : Type 1} → statement M
 in-chain-spec =

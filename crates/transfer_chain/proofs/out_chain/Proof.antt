@@ -13,7 +13,7 @@ wrapping-add-u32-requires : tie.Need-wrapping-add-u32-requires
 wrapping-add-u32-requires c κs = search needs
 
 returns : tie.Need-returns
-returns c = cc
+returns c = rw (c .wrapping-add-u32 .ensures, c .before .chain-packets .ensures, c .before .before .saturating-sub .ensures)
 
 pub out-chain-spec : {M : Type 1} → statement M
 out-chain-spec =

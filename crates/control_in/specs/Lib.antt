@@ -1,0 +1,2 @@
+pub mod DataIn
+pub mod DataInLaws

@@ -1,0 +1,2 @@
+pub mod DataOut
+pub mod DataOutLaws

@@ -1,0 +1,2 @@
+pub mod TakeOut
+pub mod TakeOutLaws
