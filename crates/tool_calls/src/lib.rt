@@ -16,6 +16,12 @@ pub fn call(list: &mut [u32; 640], world: World, line: &[u8]) -> World {
         Word::Begin => tool_calls_begin::begin(list, world, line),
         Word::Take | Word::Abandon => tool_calls_finish::call(list, world, word, line),
         Word::Report => tool_calls_report::report(list, world, line),
+        Word::DataOut | Word::DataIn | Word::Accept | Word::AcceptAddress | Word::Reject => {
+            tool_calls_stage::call(list, world, word, line)
+        }
+        Word::Setup | Word::TakeOut | Word::TakeIn | Word::Generation => {
+            tool_calls_control::call(world, word, line)
+        }
         Word::Show => show(world),
         _ => tool_calls_interrupt::call(list, world, word, line),
     }

@@ -6,8 +6,8 @@ use mathlib.Core.List.{List, [], _∷_, map}
 use mathlib.Core.Path.{_≡_, refl}
 use Rattle.tool_lines.specs.Line.{fields, decimal, numberb}
 use Rattle.tool_words.specs.declared.Word.{Word}
-use Rattle.tool_words.specs.declared.Word.the-variants.{Unfit, Driver, Allocate, Start, On, Off, Enable, Stall, Stalled, Enabled, Raise, Poll, Reset, Begin, Take, Abandon, Report, Show}
-use Rattle.tool_words.specs.Words.{bytes}
+use Rattle.tool_words.specs.declared.Word.the-variants.{Unfit, Driver, Allocate, Start, On, Off, Enable, Stall, Stalled, Enabled, Raise, Poll, Reset, Begin, Take, Abandon, Report, Setup, DataOut, TakeOut, DataIn, Accept, AcceptAddress, TakeIn, Reject, Generation, Show}
+use Rattle.tool_words.specs.Words.{bytes, meaningOf}
 use Rattle.tool_scripts.specs.Script.{numberAt, numbersFit, readCall}
 
 infix 70 _says_
@@ -37,6 +37,15 @@ examples =
     ∷ "take\t1\t2" says Take
     ∷ "abandon\t1\t2" says Abandon
     ∷ "report\t1\t2\t255\t65535" says Report
+    ∷ "setup" says Setup
+    ∷ "data_out\t7\t537001984\t64" says DataOut
+    ∷ "take_out\t7\t537001984\t64\t3" says TakeOut
+    ∷ "data_in\t7\t537001984\t64\t1\t0\t3" says DataIn
+    ∷ "accept\t7" says Accept
+    ∷ "accept_address\t7\t127" says AcceptAddress
+    ∷ "take_in\t7" says TakeIn
+    ∷ "reject\t7" says Reject
+    ∷ "generation\t4294967295" says Generation
     ∷ "state" says Show
     -- numbers left out, leading zeros
     ∷ "allocate\t1" says Allocate
@@ -45,6 +54,8 @@ examples =
     -- one number more
     ∷ "off\t0" says Unfit
     ∷ "stall\t1\t2\t1\t0" says Unfit
+    ∷ "setup\t0" says Unfit
+    ∷ "accept_address\t7\t127\t0" says Unfit
     ∷ "allocate\t1\t1\t1\t2\t3\t1024\t4\t3\t0\t2\t0" says Unfit
     -- no number: nothing, 2^32, a letter, a sign, a carriage return
     ∷ "off\t" says Unfit
@@ -67,7 +78,7 @@ examples =
     ∷ []
 
 pub said : map (λ (e : Example). readCall (bytes (e .line))) examples ≡ map (λ (e : Example). e .says) examples
-unfolding fields decimal numberb numbersFit readCall
+unfolding fields decimal numberb numbersFit meaningOf readCall
 said = refl
 
 -- the numbers of a line: number 3 is left out

@@ -1,7 +1,8 @@
 // The words of a script of calls (docs/REPLAY.md), and what each stands for.
 ghost use mathlib.Core.Path.{_≡_};
-ghost use Rattle.tool_words.specs.Rows.{Picked};
-ghost use Rattle.tool_words.specs.Words.{_taking_, meaningOf};
+ghost use Rattle.tool_lines.specs.Line.{sameb};
+ghost use Rattle.tool_words.specs.Rows.{rowName, Placed, meantAt};
+ghost use Rattle.tool_words.specs.Words.{_taking_, rows, meaningOf};
 
 // The calls that a script may ask for; a line that can't be read is unfit.
 pub enum Word {
@@ -22,6 +23,15 @@ pub enum Word {
     Take,
     Abandon,
     Report,
+    Setup,
+    DataOut,
+    TakeOut,
+    DataIn,
+    Accept,
+    AcceptAddress,
+    TakeIn,
+    Reject,
+    Generation,
     Interrupt,
     LinkFlags,
     LinkStatus,
@@ -42,54 +52,129 @@ pub struct Meant {
     pub most: usize,
 }
 
-// The call where a line's word is `name`, else what was found before.
-fn pick(found: Meant, word: &[u8], name: &[u8], call: Word, most: usize) -> Meant
-    ensures { λ r. ⌜ Picked (now (word .entry)) (now (name .entry)) (call taking most) found r ⌝ }
+// A word, then blanks.
+type Name = [u8; 16];
+
+const NAMES: [Name; 37] = [
+    *b"driver          ",
+    *b"allocate        ",
+    *b"start           ",
+    *b"on              ",
+    *b"off             ",
+    *b"enable          ",
+    *b"stall           ",
+    *b"stalled         ",
+    *b"enabled         ",
+    *b"raise           ",
+    *b"poll            ",
+    *b"reset           ",
+    *b"begin           ",
+    *b"take            ",
+    *b"abandon         ",
+    *b"report          ",
+    *b"setup           ",
+    *b"data_out        ",
+    *b"take_out        ",
+    *b"data_in         ",
+    *b"accept          ",
+    *b"accept_address  ",
+    *b"take_in         ",
+    *b"reject          ",
+    *b"generation      ",
+    *b"interrupt       ",
+    *b"link_flags      ",
+    *b"link_status     ",
+    *b"port_capability ",
+    *b"message_word    ",
+    *b"transfer_status ",
+    *b"setup_bytes     ",
+    *b"ep0_length      ",
+    *b"ep0_sequence    ",
+    *b"chain_packets   ",
+    *b"last_length     ",
+    *b"state           ",
+];
+
+fn takes(call: Word, most: usize) -> Meant
+    ensures { λ r. ⌜ r ≡ call taking most ⌝ }
 {
-    let same = check::same(word, name);
-    if same {
-        Meant {
-            call: call,
-            most: most,
-        }
-    } else {
-        found
+    Meant {
+        call: call,
+        most: most,
+    }
+}
+
+// What a row stands for: the numbers of the arms are those of the table's rows.
+fn of_row(row: usize) -> Meant
+    ensures { λ r. ⌜ r ≡ meantAt rows row ⌝ }
+{
+    match row {
+        0 => takes(Word::Driver, 2),
+        1 => takes(Word::Allocate, 10),
+        2 => takes(Word::Start, 1),
+        3 => takes(Word::On, 1),
+        4 => takes(Word::Off, 0),
+        5 => takes(Word::Enable, 3),
+        6 => takes(Word::Stall, 3),
+        7 => takes(Word::Stalled, 2),
+        8 => takes(Word::Enabled, 2),
+        9 => takes(Word::Raise, 1),
+        10 => takes(Word::Poll, 0),
+        11 => takes(Word::Reset, 0),
+        12 => takes(Word::Begin, 5),
+        13 => takes(Word::Take, 2),
+        14 => takes(Word::Abandon, 2),
+        15 => takes(Word::Report, 4),
+        16 => takes(Word::Setup, 0),
+        17 => takes(Word::DataOut, 3),
+        18 => takes(Word::TakeOut, 4),
+        19 => takes(Word::DataIn, 6),
+        20 => takes(Word::Accept, 1),
+        21 => takes(Word::AcceptAddress, 2),
+        22 => takes(Word::TakeIn, 1),
+        23 => takes(Word::Reject, 1),
+        24 => takes(Word::Generation, 1),
+        25 => takes(Word::Interrupt, 0),
+        26 => takes(Word::LinkFlags, 7),
+        27 => takes(Word::LinkStatus, 3),
+        28 => takes(Word::PortCapability, 1),
+        29 => takes(Word::MessageWord, 1),
+        30 => takes(Word::TransferStatus, 9),
+        31 => takes(Word::SetupBytes, 8),
+        32 => takes(Word::Ep0Length, 1),
+        33 => takes(Word::Ep0Sequence, 1),
+        34 => takes(Word::ChainPackets, 1),
+        35 => takes(Word::LastLength, 1),
+        36 => takes(Word::Show, 0),
+        _ => takes(Word::Unfit, 0),
     }
 }
 
 pub fn meaning(word: &[u8]) -> Meant
     ensures { λ r. ⌜ r ≡ meaningOf (now (word .entry)) ⌝ }
 {
-    let none = Meant {
-        call: Word::Unfit,
-        most: 0,
-    };
-    let a = pick(none, word, b"state", Word::Show, 0);
-    let b = pick(a, word, b"last_length", Word::LastLength, 1);
-    let c = pick(b, word, b"chain_packets", Word::ChainPackets, 1);
-    let d = pick(c, word, b"ep0_sequence", Word::Ep0Sequence, 1);
-    let e = pick(d, word, b"ep0_length", Word::Ep0Length, 1);
-    let f = pick(e, word, b"setup_bytes", Word::SetupBytes, 8);
-    let g = pick(f, word, b"transfer_status", Word::TransferStatus, 9);
-    let h = pick(g, word, b"message_word", Word::MessageWord, 1);
-    let i = pick(h, word, b"port_capability", Word::PortCapability, 1);
-    let j = pick(i, word, b"link_status", Word::LinkStatus, 3);
-    let k = pick(j, word, b"link_flags", Word::LinkFlags, 7);
-    let l = pick(k, word, b"interrupt", Word::Interrupt, 0);
-    let m = pick(l, word, b"report", Word::Report, 4);
-    let n = pick(m, word, b"abandon", Word::Abandon, 2);
-    let o = pick(n, word, b"take", Word::Take, 2);
-    let p = pick(o, word, b"begin", Word::Begin, 5);
-    let q = pick(p, word, b"reset", Word::Reset, 0);
-    let r = pick(q, word, b"poll", Word::Poll, 0);
-    let s = pick(r, word, b"raise", Word::Raise, 1);
-    let t = pick(s, word, b"enabled", Word::Enabled, 2);
-    let u = pick(t, word, b"stalled", Word::Stalled, 2);
-    let v = pick(u, word, b"stall", Word::Stall, 3);
-    let w = pick(v, word, b"enable", Word::Enable, 3);
-    let x = pick(w, word, b"off", Word::Off, 0);
-    let y = pick(x, word, b"on", Word::On, 1);
-    let z = pick(y, word, b"start", Word::Start, 1);
-    let aa = pick(z, word, b"allocate", Word::Allocate, 10);
-    pick(aa, word, b"driver", Word::Driver, 2)
+    let row = place(&NAMES, word);
+    of_row(row)
+}
+
+// The first row of a table that has this word, or how many rows there are.
+fn place(names: &[Name], word: &[u8]) -> usize
+    ensures { λ r. ⌜ Placed (now (word .entry)) (now (names .entry)) r ⌝ }
+{
+    let mut i: usize = 0;
+    while i < names.len() {
+        let name = names[i];
+        if is_name(name, word) {
+            return i;
+        }
+        i = i + 1;
+    }
+    i
+}
+
+fn is_name(name: Name, word: &[u8]) -> bool
+    ensures { λ r. ⌜ r ≡ sameb (now (word .entry)) (rowName name) ⌝ }
+{
+    let end = tool_lines::first(&name, 0, b' ');
+    check::same(word, &name[0..end])
 }
