@@ -392,6 +392,10 @@ fn conversation(random: &mut Random, asked: &[usize], sizes: &[usize; 16], scrip
                     format!("accept\t{generation}"),
                     format!("reject\t{generation}"),
                     format!("take_in\t{generation}"),
+                    format!("accept_address\t{generation}\t5"),
+                    format!("data_out\t{generation}\t{}\t8", ram::FIRST),
+                    format!("take_out\t{generation}\t{}\t8\t1", ram::FIRST),
+                    format!("data_in\t{generation}\t{}\t8\t1\t0\t1", ram::FIRST),
                     "state".into(),
                 ];
                 calls[random.below(calls.len())].clone()
@@ -509,6 +513,23 @@ fn lent(random: &mut Random, length: usize, memory: (usize, usize)) -> usize {
     }
 }
 
+/// How many bytes a stage is given; rarely as many as no stage has.
+fn a_stage(random: &mut Random) -> usize {
+    if random.one_in(40) {
+        random.one_of(&[65536, 65536 + 512, 600_000])
+    } else {
+        random.one_of(&[0, 1, 8, 18, 64, 511, 512, 512, 513, 600])
+    }
+}
+
+fn a_pattern(random: &mut Random) -> usize {
+    if random.one_in(10) {
+        random.one_of(&[256, 1 << 31, u32::MAX as usize])
+    } else {
+        random.below(256)
+    }
+}
+
 /// A call of EP0, mostly of the generation that stands.
 fn control(random: &mut Random, script: &mut Script) {
     let current = script.calls.control().1;
@@ -523,18 +544,18 @@ fn control(random: &mut Random, script: &mut Script) {
     let line = match random.below(16) {
         0 | 1 => "setup".into(),
         2 | 3 => {
-            let length = random.one_of(&[0, 1, 8, 18, 64, 511, 512, 512, 513, 600]);
+            let length = a_stage(random);
             let address = lent(random, length, script.memory);
             format!("data_out\t{generation}\t{address}\t{length}")
         }
         4..=6 => {
-            let length = random.one_of(&[0, 1, 8, 18, 64, 511, 512, 512, 513, 600]);
+            let length = a_stage(random);
             let address = lent(random, length, script.memory);
-            format!("data_in\t{generation}\t{address}\t{length}\t{first}\t{last}\t{}", random.below(256))
+            format!("data_in\t{generation}\t{address}\t{length}\t{first}\t{last}\t{}", a_pattern(random))
         }
         7 => format!("accept\t{generation}"),
         8 => {
-            let address = random.one_of(&[0, 1, 5, 126, 127, 127, 128, 255]);
+            let address = random.one_of(&[0, 1, 5, 126, 127, 127, 128, 255, 256 + 5, 1 << 31]);
             format!("accept_address\t{generation}\t{address}")
         }
         9 => format!("reject\t{generation}"),
@@ -543,7 +564,7 @@ fn control(random: &mut Random, script: &mut Script) {
                 ep0_report(random, false, script);
             }
             let (generation, place) = script.calls.stage_in_hand(false).unwrap_or((generation, (ram::FIRST as u32, 8)));
-            format!("take_out\t{generation}\t{}\t{}\t{}", place.0, place.1, random.below(256))
+            format!("take_out\t{generation}\t{}\t{}\t{}", place.0, place.1, a_pattern(random))
         }
         _ => {
             if random.one_in(2) {
