@@ -1,7 +1,7 @@
 -- Endpoint 0's part of an interrupt (reference: `transfer_irq` and `ep0_irq` of device.rs).
 -- Assumes nothing.
 use Prim.Native.Nat.{ℕ}
-use mathlib.Core.Bool.{Bool, true, false, not, _||_, cond}
+use mathlib.Core.Bool.{Bool, false, not, _||_, cond}
 use mathlib.Core.List.{List, [], _++_}
 use Rattle.ops.specs.Numbers as number
 use Rattle.ops.specs.Ops.{Op}

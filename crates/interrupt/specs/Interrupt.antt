@@ -1,7 +1,7 @@
 -- A reading of an interrupt, handed in (reference: `on_interrupt` of device.rs).
 -- Assumes nothing.
 use Prim.Native.Nat.{ℕ}
-use mathlib.Core.Bool.{Bool, false, not, cond}
+use mathlib.Core.Bool.{false, not, cond}
 use mathlib.Core.List.{List, [], _∷_}
 use lib.Dec.{leb}
 use Rattle.state.specs.declared.Awaiting.{Awaiting}

@@ -1,7 +1,7 @@
 -- An interrupt's calls by their ways out.
 -- Assumes nothing.
 use Prim.Native.Nat.{ℕ, _≤_}
-use mathlib.Core.Bool.{Bool, true, false, not, _||_, cond}
+use mathlib.Core.Bool.{Bool, true, false, _||_, cond}
 use mathlib.Core.List.{List, [], _∷_, _++_}
 use mathlib.Core.Path.{_≡_, refl, ap, subst, _∙_}
 use borrow.Author.Tests.{ltb-false, not-false}
@@ -15,7 +15,6 @@ use Rattle.state.specs.declared.Events.{Events}
 use Rattle.state.specs.declared.Check.the-variants as check
 use Rattle.state.specs.declared.Refusal.{Refusal}
 use Rattle.state.specs.Awaiting.{awaitingNumber}
-use Rattle.state.specs.Numbers.{refusalNumber}
 use Rattle.state.specs.Refusals.{Condition, firstRefusal, FirstIs, here, later, Bound}
 use Rattle.state.specs.RefusalsLaws.{bound, refused-if, none-due, not-due}
 use Rattle.state.specs.Setters.{withLink}
@@ -31,7 +30,6 @@ use Rattle.interrupt_asks.specs.declared.InterruptAnswer.{InterruptAnswer}
 use Rattle.interrupt_asks.specs.declared.InterruptAnswer.the-variants.{Refused}
 use Rattle.interrupt_asks.specs.Settled.{settled, interruptNumbers}
 use Rattle.interrupt_asks.specs.SettledLaws.{settled-numbers}
-use Rattle.interrupt_transfer.specs.declared.Sight.{Sight}
 use Rattle.interrupt_transfer.specs.declared.TransferEffect.{TransferEffect}
 use Rattle.interrupt_transfer.specs.Transfers.{Turned}
 use Rattle.interrupt_transfer.specs.Pieces.{sightOf, piecesOf, placed, afterPieces, turnedTo}

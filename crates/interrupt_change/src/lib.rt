@@ -7,7 +7,7 @@ ghost use Rattle.ops.specs.Ops.{records};
 ghost use Rattle.ops.specs.Wrote.{Wrote};
 ghost use Rattle.regs_link.specs.Link.{phyWriteOps, hotResetDoneOps};
 ghost use Rattle.regs_device.specs.Device.{busResetOps};
-ghost use Rattle.interrupt_link.specs.Actions.{rxDetected, linkReset, recovered, recoveredOps, cameUp, suspends, asleep, linkChange, linkChangeOps, changed, changedOps};
+ghost use Rattle.interrupt_link.specs.Actions.{rxDetected, linkReset, recovered, recoveredOps, cameUp, asleep, linkChange, linkChangeOps, changed, changedOps};
 use interrupt_link::Acted;
 use interrupt_link::LinkEffect;
 use ops::numbers::*;

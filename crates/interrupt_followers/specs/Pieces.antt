@@ -3,12 +3,11 @@
 -- Assumes nothing.
 use Prim.Native.Nat.{ℕ}
 use mathlib.Core.Bool.{Bool, true, false, not, _||_, cond}
-use mathlib.Core.List.{List, []}
+use mathlib.Core.List.{[]}
 use Rattle.state.specs.declared.Awaiting.{Awaiting}
 use Rattle.state.specs.declared.Awaited.{Awaited}
 use Rattle.state.specs.declared.Reading.{Reading}
 use Rattle.state.specs.declared.Setup.{Setup}
-use Rattle.state.specs.declared.Slot.{Slot}
 use Rattle.state.specs.Fresh.{nothingAwaited}
 use Rattle.state.specs.Refusals.{firstRefusal}
 use Rattle.state_slots.specs.Slots.{busyb}

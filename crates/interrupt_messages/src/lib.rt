@@ -1,6 +1,5 @@
 // The later readings of the link (terminations, a message, a warm reset), and which of its readings is heard.
 ghost use mathlib.Core.Path.{_≡_};
-ghost use mathlib.Core.List.{[]};
 ghost use Prim.Native.Nat.{ℕ, _≤_};
 ghost use lib.ListN.{length};
 ghost use Rattle.ops.specs.Ops.{listNumbers};

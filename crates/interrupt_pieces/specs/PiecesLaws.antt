@@ -1,14 +1,13 @@
 -- A reading by pieces of the state is the reading on the state.
 -- Assumes nothing.
 use Prim.Native.Nat.{ℕ, _+_, _*_, _%_, _≤_}
-use mathlib.Core.Bool.{Bool, true, false, not, _&&_, _||_, cond}
+use mathlib.Core.Bool.{Bool, true, false, cond}
 use mathlib.Core.List.{[], _++_}
-use mathlib.Core.Path.{_≡_, refl, sym, ap, subst, _∙_}
+use mathlib.Core.Path.{_≡_, refl, ap, _∙_}
 use native.Mathlib.Omega.{arith}
 use borrow.Author.Tests.{le-leb, leb-true, eqb-true}
 use lib.Dec.{eqb, leb}
 use Rattle.base.specs.EachLaws.{and-right, set-own}
-use Rattle.state.specs.declared.Awaiting.{Awaiting}
 use Rattle.state.specs.declared.State.{State}
 use Rattle.state.specs.declared.Events.{Events}
 use Rattle.state.specs.declared.TransferStatus.{TransferStatus}
@@ -17,7 +16,7 @@ use Rattle.state.specs.declared.Reading.the-variants as reading
 use Rattle.state.specs.Awaiting.{awaitingNumber}
 use Rattle.state.specs.Fresh.{freshSlot, slotAt}
 use Rattle.state.specs.Setters.{withStage, withSequence, limitOf}
-use Rattle.state_slots.specs.Slots.{busyb, slotNumber, slotPlace}
+use Rattle.state_slots.specs.Slots.{slotNumber, slotPlace}
 use Rattle.state_slots.specs.SlotsLaws.{own-place}
 use Rattle.state_slots.specs.Completing.{complete}
 use Rattle.state_slots.specs.CompletingLaws.{complete-stored}
@@ -26,14 +25,14 @@ use Rattle.state_sound.specs.FactLaws.{own-facts}
 use Rattle.regs_endpoint.specs.Endpoint.{chainAckOps}
 use Rattle.transfer_window.specs.Window.{inHandCount, windowOf}
 use Rattle.transfer_step.specs.Step.{reportStep}
-use Rattle.transfer_report.specs.Report.{slotsCounted, reportState, reportOps}
+use Rattle.transfer_report.specs.Report.{reportState, reportOps}
 use Rattle.transfer_report.specs.ReportLaws.{stored-after, list-after, list-in}
-use Rattle.control_report.specs.Ep0.{setupReceived, statusFollows, sequenceOps, packetSent}
-use Rattle.interrupt_transfer.specs.Transfers.{Turned, over, asking, statusTurn}
-use Rattle.interrupt_transfer.specs.Pieces.{sightOf, piecesOf, placed, afterPieces, statusSlot, PiecesTurned, turnedTo, completedPieces, reportPieces, statusPieces}
-use Rattle.interrupt_readings.specs.Matched.{Matched, other, linkFlags, linkStatus, capability, termStatus, message, warmStatus, transferStatus, setupBytes, ep0Length, ep0Sequence, chainPackets, lastLength, matchedAs}
+use Rattle.control_report.specs.Ep0.{setupReceived, statusFollows}
+use Rattle.interrupt_transfer.specs.Transfers.{Turned, over, statusTurn}
+use Rattle.interrupt_transfer.specs.Pieces.{sightOf, piecesOf, placed, afterPieces, statusSlot, PiecesTurned, turnedTo, reportPieces, statusPieces}
+use Rattle.interrupt_readings.specs.Matched.{Matched, other, linkFlags, linkStatus, capability, termStatus, message, warmStatus, transferStatus, setupBytes, ep0Length, ep0Sequence, chainPackets, matchedAs}
 use Rattle.interrupt_followers.specs.Followers.{unturned, heardTransfer}
-use Rattle.interrupt_followers.specs.Pieces.{withNumber, sequencePieces, followsPieces, heardPieces}
+use Rattle.interrupt_followers.specs.Pieces.{withNumber, sequencePieces, heardPieces}
 use Rattle.interrupt_hear.specs.Hear.{slotsHeard, heardSlot}
 
 -- what a reading by pieces has in common with one on the state

@@ -6,7 +6,6 @@ ghost use lib.ListN.{length};
 ghost use Rattle.ops.specs.Ops.{records, listNumbers};
 ghost use Rattle.ops.specs.Wrote.{Wrote};
 ghost use Rattle.state.specs.declared.Awaiting.the-variants as awaiting;
-ghost use Rattle.state.specs.Awaiting.{awaitingNumber};
 ghost use Rattle.state.specs.Refusals.{firstRefusal};
 ghost use Rattle.state.specs.declared.Check.the-variants.{Fits, Refused};
 ghost use Rattle.state.specs.declared.Refusal.the-variants.{OutOfTurn};

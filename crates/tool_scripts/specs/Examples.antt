@@ -1,6 +1,5 @@
 -- Lines of scripts, and what they say: full and shortened ones, and damaged ones.
 -- Assumes nothing.
-use Prim.Native.Nat.{ℕ}
 use Prim.Native.String.{String}
 use mathlib.Core.List.{List, [], _∷_, map}
 use mathlib.Core.Path.{_≡_, refl}

@@ -3,16 +3,15 @@
 use Prim.Native.Nat.{ℕ, zero, suc, _+_, _-_, _≤_, _<_}
 use mathlib.Core.Bool.{Bool, true, false, cond}
 use mathlib.Core.List.{List, [], _∷_, map}
-use mathlib.Core.Path.{_≡_, refl, ap, sym, _∙_}
+use mathlib.Core.Path.{_≡_, refl, ap, sym}
 use native.Mathlib.Numerals.{add-one}
 use native.Mathlib.Omega.{arith}
-use lib.ListN.{length, getD, take, drop, drop-of-length-le, length-map, List·getD-eq-default}
+use lib.ListN.{length, getD, take, drop, drop-of-length-le, List·getD-eq-default}
 use lib.Seq.{drop-cons}
 use Rattle.tool_lines.specs.Line.{sameb}
 use Rattle.tool_lines.specs.Search.{seek}
 use Rattle.tool_lines.specs.SearchLaws.{seek-le}
 use Rattle.tool_lines.specs.ReadLaws.{same-told}
-use Rattle.tool_words.specs.declared.Meant.{Meant}
 use Rattle.tool_words.specs.declared.Word.the-variants.{Unfit}
 use Rattle.tool_words.specs.Words.{bytes, _taking_, Row, rows, named, meaningOf}
 use Rattle.tool_words.specs.Rows.{blank, rowName, placeIn, Placed, meantAt}

@@ -1,8 +1,8 @@
 -- The door, the slots counted for a window, the reading by its pieces, which are stored back, and the end. Assumes nothing.
 use Prim.Native.Nat.{_≤_, _-_}
-use mathlib.Core.Bool.{true, false, not, _||_, cond}
+use mathlib.Core.Bool.{not, _||_, cond}
 use mathlib.Core.Logic.{⊎-elim}
-use mathlib.Core.Path.{_≡_, refl, ap, sym, _∙_}
+use mathlib.Core.Path.{_≡_, ap, sym, _∙_}
 use native.Mathlib.Omega.{arith}
 use lib.ListN.{length}
 use denote.Ref.{now}
@@ -10,7 +10,6 @@ use Rattle.base.specs.BitsLaws.{bit-small}
 use Rattle.base.specs.EachLaws.{count-none, count-step}
 use Rattle.ops.specs.Wrote.{Wrote}
 use Rattle.ops.specs.WroteLaws.{same, none}
-use Rattle.state.specs.declared.State.{State}
 use Rattle.state.specs.Refusals.{firstRefusal}
 use Rattle.state_call.specs.Outcome.{Outcome}
 use Rattle.state_sound.specs.Sound.{soundb}
@@ -20,7 +19,7 @@ use Rattle.interrupt_asks.specs.Settled.{interruptNumbers}
 use Rattle.interrupt_asks.specs.SettledLaws.{settled-parts}
 use Rattle.interrupt_readings.specs.Matched.{readingOwn}
 use Rattle.interrupt_transfer.specs.Pieces.{placed}
-use Rattle.interrupt_hear.specs.Hear.{slotsHeard, heardSlot}
+use Rattle.interrupt_hear.specs.Hear.{slotsHeard}
 use Rattle.control_report.specs.Ep0.{resetBy}
 use Rattle.interrupt_begin.specs.Begin.{door}
 use Rattle.interrupt.specs.Parts.{reacted, heardIn}

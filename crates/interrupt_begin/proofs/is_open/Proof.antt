@@ -1,5 +1,4 @@
 -- Two conditions. Assumes nothing.
-use mathlib.Core.Path.{_∙_}
 use borrow.Author.Needs.{needs}
 use Rattle.interrupt_begin.proofs.is_open.Statement.{statement}
 use Rattle.interrupt_begin.proofs.is_open.Tie as tie

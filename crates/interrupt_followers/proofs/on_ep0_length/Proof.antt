@@ -1,5 +1,4 @@
 -- Received, out of range, or of another kind. Assumes nothing.
-use mathlib.Core.Path.{refl}
 use borrow.Author.Tests.{le-leb, lt-leb}
 use Rattle.ops.specs.WroteLaws.{none}
 use Rattle.state_call.specs.Outcome.{orElse}

@@ -1,8 +1,7 @@
 -- The link's readings, and those of the transfers. Assumes nothing.
-use mathlib.Core.Path.{refl, sym, _∙_}
+use mathlib.Core.Path.{refl}
 use borrow.Author.Tests.{le-leb, lt-leb}
 use Rattle.interrupt_hear.specs.Hear.{heardBy}
-use native.Mathlib.Omega.{arith}
 use borrow.Author.Needs.{needs}
 use Rattle.interrupt_hear.proofs.hear.Statement.{statement}
 use Rattle.interrupt_hear.proofs.hear.Tie as tie

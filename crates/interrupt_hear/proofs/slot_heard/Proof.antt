@@ -1,6 +1,6 @@
 -- By the kind of the reading. Assumes nothing.
 use native.Mathlib.Omega.{arith}
-use mathlib.Core.Path.{refl, sym}
+use mathlib.Core.Path.{sym}
 use Rattle.interrupt_hear.specs.HearLaws.{no-slot-heard}
 use borrow.Author.Needs.{needs}
 use Rattle.interrupt_hear.proofs.slot_heard.Statement.{statement}

@@ -1,5 +1,4 @@
 -- The flag, then what the step asks for. Assumes nothing.
-use mathlib.Core.Path.{refl}
 use Rattle.ops.specs.WroteLaws.{_▹_}
 use borrow.Author.Needs.{needs}
 use Rattle.interrupt_transfer.proofs.report_pieces.Statement.{statement}

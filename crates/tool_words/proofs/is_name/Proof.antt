@@ -1,5 +1,4 @@
 -- The name ends at the first blank. Assumes nothing.
-use denote.Ref.{now}
 use Rattle.tool_words.specs.RowsLaws.{name-within, name-told}
 use borrow.Author.Needs.{needs}
 use Rattle.tool_words.proofs.is_name.Statement.{statement}
