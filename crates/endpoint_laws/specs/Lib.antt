@@ -1,0 +1,6 @@
+pub mod Sends
+pub mod SendLaws
+pub mod Receives
+pub mod ReceiveLaws
+pub mod MoveLaws
+pub mod MoveKeeps

@@ -1,0 +1,1 @@
+// No code: specs/ has what holds of sends and receives over all their pieces.
