@@ -40,24 +40,21 @@ pub fn receive<'a>(
     };
     let i = state_slots::slot_place(index, false);
     let slot = state.endpoints[i];
-    let chosen = endpoint_choice::receive_choice(slot, asked);
-    let unfit = endpoint_choice::is_unfit(slot, own_address, own.len());
+    let plan = endpoint_plan::receive_plan(slot, asked, own_address, own.len());
     let result = transfer_begin::begin(
         ops,
         state,
         events,
         index,
         false,
-        chosen.address,
-        chosen.length,
-        false,
-        false,
-        unfit,
+        plan.address,
+        plan.length,
+        plan.zlp,
+        plan.long,
+        plan.unfit,
     );
-    let at = endpoint_choice::place(asked);
-    let piece = endpoint_parts::piece(bytes, own, chosen.direct, at, chosen.length as usize);
     let begun = result.answer;
-    let answer = endpoint_answer::begun_answer(begun, piece.len());
+    let answer = endpoint_plan::begun_piece(begun, plan, bytes, own);
     let after = result.state;
     let wakes = result.wakes;
     MoveResult {

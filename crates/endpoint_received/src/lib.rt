@@ -1,10 +1,11 @@
 // A piece of a receive taken (reference: the loop of `receive` in endpoint.rs).
 ghost use mathlib.Core.Path.{_≡_};
 ghost use mathlib.Core.Bool.{false};
+ghost use Prim.Native.Nat.{_-_, min as least};
 ghost use lib.ListN.{length};
 ghost use Rattle.transfer_take.specs.declared.TakeAnswer.the-variants.{Taken};
-ghost use Rattle.endpoint_parts.specs.Parts.{put};
-ghost use Rattle.endpoint_choice.specs.Choice.{asked as what, place};
+ghost use Rattle.endpoint_parts.specs.Parts.{part, put};
+ghost use Rattle.endpoint_choice.specs.Choice.{asked as what, place, ownTransfer};
 ghost use Rattle.endpoint_answer.specs.Answers.{moveNumbers};
 ghost use Rattle.endpoint_received.specs.Received.{receiveMost, receivedSays, broughtBy, receivedCall, receivedNumbers};
 use endpoint_answer::MoveAnswer;
@@ -61,6 +62,16 @@ fn brought(own: bool, answer: TakeAnswer) -> u32
     }
 }
 
+// Those are stored in the caller's bytes, from where it stands.
+fn store(slot: Slot, asked: Asked, answer: TakeAnswer, own: &[u8], bytes: &mut [u8])
+    ensures { λ r. ⌜ now (bytes .exit) ≡ put (now (bytes .entry)) (place asked) (part (now (own .entry)) 0 (least (broughtBy (ownTransfer slot) answer) (length (now (bytes .entry)) - place asked))) ⌝ }
+{
+    let by_own = endpoint_choice::is_own_transfer(slot);
+    let count = brought(by_own, answer);
+    let at = endpoint_choice::place(asked);
+    endpoint_parts::copy_part(own, 0, count as usize, bytes, at);
+}
+
 // Says that a piece of a receive is under way, or takes it, stores what came by way of the own buffer in the caller's
 // bytes, and says what is next. Both are lent as at its begin; where the caller's lie isn't asked. Where more came than
 // there is room for, the transfer is closed with 9 and nothing is stored.
@@ -93,10 +104,7 @@ pub fn received(
     let room = most(slot, asked, own.len());
     let taken = transfer_take::take(state, events, index, false, unfit, room);
     let took = taken.answer;
-    let by_own = endpoint_choice::is_own_transfer(slot);
-    let count = brought(by_own, took);
-    let at = endpoint_choice::place(asked);
-    endpoint_parts::copy_part(own, 0, count as usize, bytes, at);
+    store(slot, asked, took, own, bytes);
     let answer = received_answer(slot, asked, took);
     let after = taken.state;
     let wakes = taken.wakes;

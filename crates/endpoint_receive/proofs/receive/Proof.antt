@@ -20,26 +20,14 @@ mul-slot c = search needs
 element-copy-out-slot : tie.Need-element-copy-out-slot
 element-copy-out-slot c = search needs
 
-receive-choice-requires : tie.Need-receive-choice-requires
-receive-choice-requires c κs = search needs
-
-is-unfit-requires : tie.Need-is-unfit-requires
-is-unfit-requires c κs = search needs
+receive-plan-requires : tie.Need-receive-plan-requires
+receive-plan-requires c κs = search needs
 
 begin-requires : tie.Need-begin-requires
 begin-requires c κs = search needs
 
-place-requires : tie.Need-place-requires
-place-requires c κs = search needs
-
-cast-piece : tie.Need-cast-piece
-cast-piece c = search needs
-
-piece-requires : tie.Need-piece-requires
-piece-requires c κs = search needs
-
-begun-answer-requires : tie.Need-begun-answer-requires
-begun-answer-requires c κs = search needs
+begun-piece-requires : tie.Need-begun-piece-requires
+begun-piece-requires c κs = search needs
 
 same-length : tie.Need-same-length
 same-length c = search needs
@@ -47,23 +35,21 @@ same-length c = search needs
 returns : tie.Need-returns
 returns c =
     let b = c .before .before in
-    let d = b .before .before .before in
-    let g = d .before .before .before in
-    let u = g .before .before in
-    let p = u .before .before .before in
+    let g = b .before .before .before in
+    let d = g .before .before in
+    let p = d .before .before in
     let a = p .before .before .before .before .args in
     let k = asked (a .single) false (a .address) (length (now (a .bytes))) (a .position) in
     let o = receive-begun (length (now (a .ops))) (a .t2) (a .events) (a .index) k (a .own-address) (length (now (a .own))) (now (a .bytes)) (now (a .own)) refl refl in
-    let chose = u .before .receive-choice .ensures in
-    let unfit = u .is-unfit .ensures in
+    let plan = d .receive-plan .ensures in
     let place = p .slot-place .ensures in
     let r = g .begin .ensures in
-    let begun = rw (rw (chose, unfit, place) at (r .0), b .before .piece .ensures, d .place .ensures, chose, place) at (b .begun-answer .ensures) in
+    let begun = rw (rw (plan, place) at (r .0), plan, place) at (b .begun-piece .ensures) in
     (
       begun ∙ o .0,
       (
-        rw (chose, unfit, place) at (r .1 .0) ∙ o .1 .0,
-        (same (o .1 .1 .0) (rw (chose, unfit, place) at (r .1 .1 .0)), (rw (chose, unfit, place) at (r .1 .1 .1 .0) ∙ o .1 .1 .1 .0, ap moveNumbers begun ∙ o .1 .1 .1 .1)),
+        rw (plan, place) at (r .1 .0) ∙ o .1 .0,
+        (same (o .1 .1 .0) (rw (plan, place) at (r .1 .1 .0)), (rw (plan, place) at (r .1 .1 .1 .0) ∙ o .1 .1 .1 .0, ap moveNumbers begun ∙ o .1 .1 .1 .1)),
       ),
     )
 
@@ -74,12 +60,8 @@ receive-spec =
     slot-place-requires
     mul-slot
     element-copy-out-slot
-    receive-choice-requires
-    is-unfit-requires
+    receive-plan-requires
     begin-requires
-    place-requires
-    cast-piece
-    piece-requires
-    begun-answer-requires
+    begun-piece-requires
     same-length
     returns)

@@ -2,7 +2,7 @@
 use denote.Ref.{now}
 use lib.ListN.{length}
 use mathlib.Core.Bool.{false}
-use mathlib.Core.Path.{refl, ap, sym, _∙_}
+use mathlib.Core.Path.{refl, ap, _∙_}
 use Rattle.endpoint_parts.specs.Parts.{put}
 use Rattle.endpoint_choice.specs.Choice.{asked, place}
 use Rattle.endpoint_answer.specs.Answers.{moveNumbers}
@@ -29,20 +29,8 @@ most-requires c κs = search needs
 take-requires : tie.Need-take-requires
 take-requires c κs = search needs
 
-is-own-transfer-requires : tie.Need-is-own-transfer-requires
-is-own-transfer-requires c κs = search needs
-
-brought-requires : tie.Need-brought-requires
-brought-requires c κs = search needs
-
-place-requires : tie.Need-place-requires
-place-requires c κs = search needs
-
-cast-copy-part : tie.Need-cast-copy-part
-cast-copy-part c = search needs
-
-copy-part-requires : tie.Need-copy-part-requires
-copy-part-requires c κs = search needs
+store-requires : tie.Need-store-requires
+store-requires c κs = search needs
 
 received-answer-requires : tie.Need-received-answer-requires
 received-answer-requires c κs = search needs
@@ -53,8 +41,7 @@ same-length c = search needs
 returns : tie.Need-returns
 returns c =
     let w = c .before .before .before .before .before in
-    let h = w .before .before in
-    let t = h .before .before .before in
+    let t = w .before .before in
     let p = t .before .before .before .before in
     let a = p .before .before .before .args in
     let k = asked (a .single) false 0 (length (now (a .bytes))) (a .position) in
@@ -66,7 +53,7 @@ returns c =
     let r = t .take .ensures in
     let took = rw (unfit, room, here) at (r .0) in
     let says = rw (took, here) at (c .before .before .received-answer .ensures) ∙ o .0 in
-    let stored = rw (h .place .ensures, h .before .brought .ensures, h .before .before .is-own-transfer .ensures, took, here) at (w .copy-part .ensures) in
+    let stored = rw (took, here) at (w .store .ensures) in
     (
       says,
       (
@@ -88,11 +75,7 @@ received-spec =
     is-unfit-requires
     most-requires
     take-requires
-    is-own-transfer-requires
-    brought-requires
-    place-requires
-    cast-copy-part
-    copy-part-requires
+    store-requires
     received-answer-requires
     same-length
     returns)

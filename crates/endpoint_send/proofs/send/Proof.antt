@@ -20,53 +20,33 @@ mul-slot c = search needs
 element-copy-out-slot : tie.Need-element-copy-out-slot
 element-copy-out-slot c = search needs
 
-send-choice-requires : tie.Need-send-choice-requires
-send-choice-requires c κs = search needs
-
-is-longer-requires : tie.Need-is-longer-requires
-is-longer-requires c κs = search needs
-
-is-unfit-requires : tie.Need-is-unfit-requires
-is-unfit-requires c κs = search needs
-
-send-begins-requires : tie.Need-send-begins-requires
-send-begins-requires c κs = search needs
+send-plan-requires : tie.Need-send-plan-requires
+send-plan-requires c κs = search needs
 
 nothing-requires : tie.Need-nothing-requires
 nothing-requires c κs = search needs
 
 returns : tie.Need-returns
 returns c =
-    let b = c .before .before in
-    let p = b .before .before .before .before .before in
+    let d = c .before .before .before in
+    let p = d .before .before in
     let a = p .before .before .before .before .args in
     let k = asked (a .single) (a .needs-zlp) (a .address) (length (now (a .bytes))) (a .position) in
+    let plan = d .send-plan .ensures in
     let place = p .slot-place .ensures in
-    let o = send-nothing (length (now (a .ops))) (a .t2) (a .events) (a .index) k (now (a .bytes)) (a .own-address) (length (now (a .own))) (sym (rw place at (b .send-begins .ensures)) ∙ not-true _ (c .before .if1 .taken)) in
+    let o = send-nothing (length (now (a .ops))) (a .t2) (a .events) (a .index) k (now (a .bytes)) (a .own-address) (length (now (a .own))) (not-true _ (rw (plan, place) at (c .before .if1 .taken))) in
     let n = c .nothing .ensures in
-    let says = rw (b .before .before .before .send-choice .ensures, b .before .before .is-longer .ensures, b .before .is-unfit .ensures, place) at (n .0) in
+    let says = rw (plan, place) at (n .0) in
     (says ∙ o .0, (n .1 .0 ∙ o .1 .0, (same (o .1 .1 .0) (rw (n .1 .1 .0) (none _ 0)), (n .1 .1 .1 ∙ o .1 .1 .1 .0, (ap moveNumbers says ∙ o .1 .1 .1 .1 .0, rw (sym (o .1 .1 .1 .1 .1)) refl)))))
 
 begin-requires : tie.Need-begin-requires
 begin-requires c κs = search needs
 
-is-begun-requires : tie.Need-is-begun-requires
-is-begun-requires c κs = search needs
-
-place-requires : tie.Need-place-requires
-place-requires c κs = search needs
-
-cast-count : tie.Need-cast-count
-cast-count c = search needs
-
 hand-over-requires : tie.Need-hand-over-requires
 hand-over-requires c κs = search needs
 
-piece-requires : tie.Need-piece-requires
-piece-requires c κs = search needs
-
-begun-answer-requires : tie.Need-begun-answer-requires
-begun-answer-requires c κs = search needs
+begun-piece-requires : tie.Need-begun-piece-requires
+begun-piece-requires c κs = search needs
 
 same-length : tie.Need-same-length
 same-length c = search needs
@@ -76,31 +56,28 @@ same-length-2 c = search needs
 
 returns-2 : tie.Need-returns-2
 returns-2 c =
-    let h = c .before .before .before .before .before .before .before in
-    let d = h .before .before .before .before .before in
-    let g = d .before .before .before in
-    let b = g .before .before .before in
-    let p = b .before .before .before .before .before in
+    let b = c .before .before in
+    let h = b .before .before .before .before in
+    let g = h .before .before .before .before in
+    let d = g .before .before .before .before in
+    let p = d .before .before in
     let a = p .before .before .before .before .args in
     let k = asked (a .single) (a .needs-zlp) (a .address) (length (now (a .bytes))) (a .position) in
+    let plan = d .send-plan .ensures in
     let place = p .slot-place .ensures in
-    let some = sym (rw place at (b .send-begins .ensures)) ∙ not-false _ (g .before .before .if1 .left) in
-    let o = send-begun (length (now (a .ops))) (a .t2) (a .events) (a .index) k (now (a .bytes)) (a .own-address) (length (now (a .own))) (h .hand-over .last .1 .1 .1 .1 .0) (h .hand-over .kept .1 .1 .1 .1 .0) refl some in
+    let o = send-begun (length (now (a .ops))) (a .t2) (a .events) (a .index) k (now (a .bytes)) (a .own-address) (length (now (a .own))) (h .hand-over .last .1 .1 .1 .0) (h .hand-over .kept .1 .1 .1 .0) refl (not-false _ (rw (plan, place) at (g .before .before .if1 .left))) in
     let r = g .begin .ensures in
-    let chose = b .before .before .before .send-choice .ensures in
-    let long = b .before .before .is-longer .ensures in
-    let unfit = b .before .is-unfit .ensures in
-    let answer = rw (chose, long, unfit, place) at (r .0) in
-    let says = rw (answer, c .before .before .before .piece .ensures, h .before .before .before .before .place .ensures, chose, place) at (c .before .before .begun-answer .ensures) in
+    let answer = rw (plan, place) at (r .0) in
+    let says = rw (answer, plan, place) at (b .begun-piece .ensures) in
     (
       says ∙ o .0,
       (
-        rw (chose, long, unfit, place) at (r .1 .0) ∙ o .1 .0,
+        rw (plan, place) at (r .1 .0) ∙ o .1 .0,
         (
-          same (o .1 .1 .0) (rw (chose, long, unfit, place) at (r .1 .1 .0)),
+          same (o .1 .1 .0) (rw (plan, place) at (r .1 .1 .0)),
           (
-            rw (chose, long, unfit, place) at (r .1 .1 .1 .0) ∙ o .1 .1 .1 .0,
-            (ap moveNumbers says ∙ o .1 .1 .1 .1 .0, rw (sym (o .1 .1 .1 .1 .1)) (rw (d .is-begun .ensures, answer, h .before .before .before .before .place .ensures, chose, place) at (h .hand-over .ensures))),
+            rw (plan, place) at (r .1 .1 .1 .0) ∙ o .1 .1 .1 .0,
+            (ap moveNumbers says ∙ o .1 .1 .1 .1 .0, rw (sym (o .1 .1 .1 .1 .1)) (rw (answer, plan, place) at (h .hand-over .ensures))),
           ),
         ),
       ),
@@ -113,19 +90,12 @@ send-spec =
     slot-place-requires
     mul-slot
     element-copy-out-slot
-    send-choice-requires
-    is-longer-requires
-    is-unfit-requires
-    send-begins-requires
+    send-plan-requires
     nothing-requires
     returns
     begin-requires
-    is-begun-requires
-    place-requires
-    cast-count
     hand-over-requires
-    piece-requires
-    begun-answer-requires
+    begun-piece-requires
     same-length
     same-length-2
     returns-2)

@@ -6,8 +6,8 @@ use Rattle.transfer_piece.specs.Piece.{piece}
 use Rattle.transfer_begin.specs.BeginLaws.{check-place}
 use Rattle.endpoint_answer.specs.declared.MoveAnswer.the-variants.{Refused, Ended}
 use borrow.Author.Needs.{needs}
-use Rattle.endpoint_send.proofs.nothing.Statement.{statement}
-use Rattle.endpoint_send.proofs.nothing.Tie as tie
+use Rattle.endpoint_nothing.proofs.nothing.Statement.{statement}
+use Rattle.endpoint_nothing.proofs.nothing.Tie as tie
 
 sound-requires : tie.Need-sound-requires
 sound-requires c κs = search needs
@@ -37,9 +37,9 @@ returns : tie.Need-returns
 returns c =
     let p = c .before .before .before .before in
     let a = p .before .before .before .before .args in
-    let asked = piece (a .chosen .address) (a .chosen .length) (a .chosen .zlp) in
+    let asked = piece (a .plan .address) (a .plan .length) (a .plan .zlp) in
     let tested = rw (c .before .before .slot-check .ensures, p .slot-place .ensures, p .before .before .before .sound .ensures) at (c .before .admit .ensures) in
-    (c .ended .ensures ∙ ap (λ k. orElse k Refused (Ended (a .total))) (tested ∙ check-place (a .room) (a .t2) (a .events) (a .index) true asked (a .long) (a .unfit)), (refl, (refl, p .before .no-wakes .ensures)))
+    (c .ended .ensures ∙ ap (λ k. orElse k Refused (Ended (a .total))) (tested ∙ check-place (a .room) (a .t2) (a .events) (a .index) true asked (a .plan .long) (a .plan .unfit)), (refl, (refl, p .before .no-wakes .ensures)))
 
 pub nothing-spec : {M : Type 1} → statement M
 nothing-spec =

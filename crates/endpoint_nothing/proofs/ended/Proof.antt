@@ -1,8 +1,8 @@
 -- `ended`: by its cases. Assumes nothing.
 use Rattle.state_call.specs.Outcome.{orElse}
 use borrow.Author.Needs.{needs}
-use Rattle.endpoint_send.proofs.ended.Statement.{statement}
-use Rattle.endpoint_send.proofs.ended.Tie as tie
+use Rattle.endpoint_nothing.proofs.ended.Statement.{statement}
+use Rattle.endpoint_nothing.proofs.ended.Tie as tie
 
 enum-told : tie.Need-enum-told
 enum-told c = search needs
