@@ -11,6 +11,7 @@ typedef struct { _Alignas(4) uint8_t bytes[state_sound__sound_arg0]; } State;
 typedef struct { _Alignas(4) uint8_t bytes[driver_start__start_arg3]; } Driver;
 typedef struct { uint8_t bits; } Events;
 typedef struct { uint32_t *at; uint64_t length; } List;
+typedef struct { uint8_t *at; uint64_t length; } Bytes;
 typedef struct {
     uint8_t requested, index, incoming, ep_type;
     uint16_t max_packet_size;
@@ -23,6 +24,7 @@ typedef struct {
 typedef struct { uint8_t kind, refusal; } Answer;
 typedef struct { uint8_t kind, value; } Query; /* a flag or an event */
 typedef struct { uint8_t kind; uint32_t value; } Number;
+typedef struct { uint8_t kind; uint64_t value; } Moved;
 typedef struct { uint8_t kind; uint32_t config[4]; } Allocated;
 typedef struct { uint8_t bus; uint16_t slots; } Wakes;
 
@@ -32,6 +34,8 @@ typedef struct { State state; Answer answer; Events events; Wakes wakes; } Start
 typedef struct { State state; Answer answer; uint64_t end; Wakes wakes; } Result; /* of begin, the orders and power */
 typedef struct { State state; Number answer; Wakes wakes; } TakeResult;
 typedef struct { State state; Number answer; uint64_t end; Wakes wakes; } AbandonResult;
+typedef struct { State state; Moved answer; uint64_t end; Wakes wakes; } MoveResult;
+typedef struct { State state; Moved answer; Wakes wakes; } MovedResult;
 typedef struct { State state; uint64_t end; } Ended; /* of the report and the bus reset */
 typedef struct { Answer answer; Events events; Wakes wakes; } RaiseResult;
 typedef struct { Query answer; Events events; Wakes wakes; } PollResult;
@@ -64,6 +68,14 @@ STATE_CALL(transfer_report__report, Ended, const List *, uint64_t at, const Stat
 STATE_CALL(transfer_take__take, TakeResult, const State *, const Events *, uint8_t index, _Bool incoming, _Bool unfit,
     uint32_t most);
 STATE_CALL(transfer_abandon__abandon, AbandonResult, const List *, const State *, const Events *, uint8_t index, _Bool incoming);
+STATE_CALL(endpoint_send__send, MoveResult, const List *, const State *, const Events *, uint8_t index, _Bool single,
+    _Bool needs_zlp, const Bytes *, uint32_t address, const Bytes *own, uint32_t own_address, uint64_t position);
+STATE_CALL(endpoint_sent__sent, MovedResult, const State *, const Events *, uint8_t index, _Bool single, _Bool needs_zlp,
+    const Bytes *, const Bytes *own, uint32_t own_address, uint64_t position);
+STATE_CALL(endpoint_receive__receive, MoveResult, const List *, const State *, const Events *, uint8_t index, _Bool single,
+    const Bytes *, uint32_t address, const Bytes *own, uint32_t own_address, uint64_t position);
+STATE_CALL(endpoint_received__received, MovedResult, const State *, const Events *, uint8_t index, _Bool single,
+    const Bytes *, const Bytes *own, uint32_t own_address, uint64_t position);
 STATE_CALL(bus_order__endpoint_set_stalled, Result, const List *, const State *, const Events *, uint8_t index,
     _Bool incoming, _Bool stalled);
 STATE_CALL(bus_order__endpoint_set_enabled, Result, const List *, const State *, const Events *, uint8_t index,
@@ -81,10 +93,13 @@ _Static_assert(sizeof(Reading) == interrupt__answer_arg4, "the layout of a readi
 _Bool state_sound__sound(const State *, const Events *);
 
 enum { BULK = 2, RESET = 1, POWER = 8, REVISION = 3, WIDTH = 5 };
+enum { OWN = 1024, OWN_IN = 0x200A0000 + 512, OWN_OUT = OWN_IN + OWN }; /* the own buffers of endpoint 1 */
 enum { MEMORY = 0x200A0000, PIECE = 0x200B0000, SHORT = 8 * 1024, LONG = 2 * 255 * 1024 };
 
 static uint32_t numbers[640];
 static const List list = {numbers, 640};
+static uint8_t memory[SHORT], own_memory[OWN];
+static const Bytes own = {own_memory, OWN};
 static const Events events = {POWER}, two = {POWER | RESET};
 static Driver driver;
 static State fresh, off, on; /* never started; started; powered on, with its endpoints enabled */
@@ -226,6 +241,29 @@ int side_run(const char *row) {
         bench_off();
         want(done ? t.answer.kind == 2 && t.answer.value == SHORT : t.answer.kind == 1, row);
         want_records(0, 0, row);
+    } else if (is(row, "send") || is(row, "send_copied") || is(row, "sent") || is(row, "receive") || is(row, "received")) {
+        /* of what isn't reached a packet is copied, by way of the own buffer */
+        static MoveResult m;
+        static MovedResult t;
+        int incoming = row[0] == 's', far = is(row, "send_copied") || is(row, "received");
+        int taken = is(row, "sent") || is(row, "received");
+        uint32_t at = far ? 1 : PIECE, length = far ? OWN : SHORT;
+        Bytes bytes = {memory, length};
+        if (!taken) bench_on();
+        if (incoming) endpoint_send__send(&m, &list, &s, &events, 1, 0, 0, &bytes, at, &own, OWN_IN, 0);
+        else endpoint_receive__receive(&m, &list, &s, &events, 1, 0, &bytes, at, &own, OWN_OUT, 0);
+        if (!taken) bench_off();
+        want(m.answer.kind == 1 && m.answer.value == length, row);
+        if (taken) {
+            transfer_report__report(&ended, &list, 0, &m.state, 1, incoming, far ? 1 : 8, 1024);
+            s = ended.state;
+            bench_on();
+            if (incoming) endpoint_sent__sent(&t, &s, &events, 1, 0, 0, &bytes, &own, OWN_IN, 0);
+            else endpoint_received__received(&t, &s, &events, 1, 0, &bytes, &own, OWN_OUT, 0);
+            bench_off();
+            want(t.answer.kind == 4 && t.answer.value == length, row);
+        }
+        want_records(taken ? 0 : m.end, taken ? 0 : 5, row);
     } else if (is(row, "abandon_busy") || is(row, "abandon_idle")) {
         static AbandonResult a;
         int busy = is(row, "abandon_busy");
