@@ -58,7 +58,7 @@ _Static_assert(sizeof(Events) == state_sound__sound_arg1, "the layout of the eve
 
 _Static_assert(sizeof(State) == state__fresh__fresh_result, "the layout of the state");
 void state__fresh__fresh(State *);
-CALL(driver_allocate__new, NewResult, uint32_t address, uint32_t length);
+CALL(driver_new__new, NewResult, uint32_t address, uint32_t length);
 CALL(driver_allocate__allocate, AllocateResult, const Driver *, _Bool incoming, const Request *);
 STATE_CALL(driver_start__start, StartResult, const State *, const Events *, const Driver *, uint16_t size);
 STATE_CALL(transfer_begin__begin, Result, const List *, const State *, const Events *, uint8_t index, _Bool incoming,
@@ -82,8 +82,8 @@ STATE_CALL(bus_order__endpoint_set_enabled, Result, const List *, const State *,
     _Bool incoming, _Bool enabled);
 CALL(bus_query__is_stalled, QueryResult, const State *, const Events *, uint8_t index, _Bool incoming);
 CALL(bus_query__is_enabled, QueryResult, const State *, const Events *, uint8_t index, _Bool incoming);
-STATE_CALL(bus_power__power_on, Result, const List *, const State *, const Events *, uint32_t revision);
-STATE_CALL(bus_power__power_off, Result, const List *, const State *, const Events *);
+STATE_CALL(bus_power_on__power_on, Result, const List *, const State *, const Events *, uint32_t revision);
+STATE_CALL(bus_power_off__power_off, Result, const List *, const State *, const Events *);
 STATE_CALL(bus_reset__bus_reset, Ended, const List *, uint64_t at, const State *);
 CALL(bus_events__raise, RaiseResult, const State *, const Events *, uint8_t event);
 CALL(bus_events__poll, PollResult, const State *, const Events *);
@@ -122,7 +122,7 @@ void side_setup(int slots) {
     static AllocateResult given;
     static StartResult started;
     static Result r;
-    driver_allocate__new(&made, MEMORY, 0x4000);
+    driver_new__new(&made, MEMORY, 0x4000);
     want(made.answer.kind == 1, "making a driver");
     driver = made.driver;
     for (int i = 0; i < slots; i++) {
@@ -135,7 +135,7 @@ void side_setup(int slots) {
     driver_start__start(&started, &fresh, &events, &driver, 512);
     want(started.answer.kind == 1 && started.events.bits == POWER, "starting");
     off = started.state;
-    bus_power__power_on(&r, &list, &off, &events, REVISION);
+    bus_power_on__power_on(&r, &list, &off, &events, REVISION);
     want(r.answer.kind == 1 && r.wakes.bus == 1 && r.wakes.slots == 0xFFFF, "power on");
     on = r.state;
     for (int i = 0; i < slots; i++) {
@@ -300,13 +300,13 @@ int side_run(const char *row) {
     } else if (is(row, "power_on")) {
         s = off;
         bench_on();
-        bus_power__power_on(&r, &list, &s, &events, REVISION);
+        bus_power_on__power_on(&r, &list, &s, &events, REVISION);
         bench_off();
         want(r.answer.kind == 1, row);
         want_records(r.end, 127, row);
     } else if (is(row, "power_off")) {
         bench_on();
-        bus_power__power_off(&r, &list, &s, &events);
+        bus_power_off__power_off(&r, &list, &s, &events);
         bench_off();
         want(r.answer.kind == 2, row);
         want_records(r.end, 8, row);

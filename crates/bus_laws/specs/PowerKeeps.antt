@@ -22,8 +22,9 @@ use Rattle.state_call.specs.OutcomeLaws.{keeps, passed}
 use Rattle.state_laws.specs.SlotLaws.{Cut, forgotten-cut, fresh-cut}
 use Rattle.bus_reset.specs.Reset.{ep0Slot, controlReset, busResetState}
 use Rattle.bus_reset.specs.ResetLaws.{slotReset, reset-both}
-use Rattle.bus_power.specs.declared.PowerAnswer.the-variants as power
-use Rattle.bus_power.specs.Power.{onConditions, onState, powerOnCall, offConditions, offState, powerOffCall}
+use Rattle.bus_power_off.specs.declared.PowerAnswer.the-variants as power
+use Rattle.bus_power_off.specs.PowerOff.{offConditions, offState, powerOffCall}
+use Rattle.bus_power_on.specs.PowerOn.{onConditions, onState, powerOnCall}
 
 -- a way to reset the slots of endpoint 0 and to switch the others off
 module _ (f : ℕ → Slot → Slot) (on : ℕ → Bool) (is : (i : ℕ) (x : Slot) → f i x ≡ resetSlot x (leb 2 i) (on i)) (data-off : (i : ℕ) → ltb i 2 ≡ false → on i ≡ false) where

@@ -36,12 +36,19 @@ pub fn endpoint_set_stalled(
     ensures number { λ r. ⌜ orderNumber (r .answer) ≡ checkNumber (firstRefusal (orderConditions (length (now (ops .entry))) state events)) ⌝ }
 {
     let mut s = state;
-    let good = state_sound::sound(s, events);
-    let awaited = s.awaited;
+    let good = state_sound::sound(state, events);
     let i = state_slots::slot_place(index, incoming);
-    let x = s.endpoints[i];
     let order = Order::Stall(stalled);
-    let o = bus_endpoint::obey(ops, good, awaited, s.powered, index, incoming, order, x);
+    let o = bus_endpoint::obey(
+        ops,
+        good,
+        state.awaited,
+        state.powered,
+        index,
+        incoming,
+        order,
+        s.endpoints[i],
+    );
     let y = o.slot;
     let answer = o.answer;
     let wakes = o.wakes;
@@ -70,12 +77,19 @@ pub fn endpoint_set_enabled(
     ensures number { λ r. ⌜ orderNumber (r .answer) ≡ checkNumber (firstRefusal (orderConditions (length (now (ops .entry))) state events)) ⌝ }
 {
     let mut s = state;
-    let good = state_sound::sound(s, events);
-    let awaited = s.awaited;
+    let good = state_sound::sound(state, events);
     let i = state_slots::slot_place(index, incoming);
-    let x = s.endpoints[i];
     let order = Order::Enable(enabled);
-    let o = bus_endpoint::obey(ops, good, awaited, s.powered, index, incoming, order, x);
+    let o = bus_endpoint::obey(
+        ops,
+        good,
+        state.awaited,
+        state.powered,
+        index,
+        incoming,
+        order,
+        s.endpoints[i],
+    );
     let y = o.slot;
     let answer = o.answer;
     let wakes = o.wakes;

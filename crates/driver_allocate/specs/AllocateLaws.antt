@@ -1,7 +1,6 @@
--- Making a driver and allocating: numbers, ways out, and what an accepted request has.
+-- Allocating: numbers, ways out, and what an accepted request has.
 -- Assumes nothing.
-use Prim.Native.Nat.{ℕ, _^_, _<_}
-use mathlib.Core.Bool.{Bool, true}
+use mathlib.Core.Bool.{Bool}
 use mathlib.Core.Path.{_≡_, refl}
 use native.Mathlib.Omega.{arith}
 use borrow.Author.Tests.{not-false, eqb-false, ltb-false}
@@ -10,30 +9,12 @@ use Rattle.state.specs.declared.Driver.{Driver}
 use Rattle.state.specs.declared.Refusal.{Refusal}
 use Rattle.state.specs.declared.Check.{Check}
 use Rattle.state.specs.declared.Check.the-variants.{Fits, Refused}
-use Rattle.state.specs.Numbers.{checkNumber}
 use Rattle.state.specs.Refusals.{Bound}
 use Rattle.state.specs.RefusalsLaws.{bound, none-due, not-due}
-use Rattle.state_sound.specs.Clauses.{inRam}
 use Rattle.state_call.specs.Outcome.{orElse}
-use Rattle.state_sound.specs.FactLaws.{in-ram, driver-facts}
-use Rattle.driver_allocate.specs.Rules.{up4}
-use Rattle.driver_allocate.specs.declared.NewAnswer.the-variants as new
-use Rattle.driver_allocate.specs.declared.NewResult.{NewResult}
+use Rattle.state_sound.specs.FactLaws.{driver-facts}
 use Rattle.driver_allocate.specs.declared.AllocateResult.{AllocateResult}
-use Rattle.driver_allocate.specs.Allocate.{newConditions, newCheck, newDriver, noDriver, newResult, newNumber, allocateConditions, allocateCheck, placed, allocateAt, allocateResult, allocateNumbers, numbersFor, AcceptedRequest, Placeable}
-
-new-number : (address length : ℕ) → newNumber (newResult address length .answer) ≡ checkNumber (newCheck address length)
-unfolding newResult orElse
-new-number address length = go (newCheck address length)
-  where
-    go : (c : Check) → newNumber (orElse {B = NewResult} c (λ r. record { answer = new.Refused r; driver = noDriver }) (record { answer = new.Made; driver = newDriver address length }) .answer) ≡ checkNumber c
-    go Fits = refl
-    go (Refused r) = refl
-
--- an answer that is right has the right number
-pub new-told : (r : NewResult) (address length : ℕ) → r ≡ newResult address length
-    → (r ≡ newResult address length) × (newNumber (r .answer) ≡ checkNumber (newCheck address length))
-new-told r address length e = (e, rw e (new-number address length))
+use Rattle.driver_allocate.specs.Allocate.{allocateConditions, allocateCheck, placed, allocateAt, allocateResult, allocateNumbers, numbersFor, AcceptedRequest, Placeable}
 
 allocate-numbers : (d : Driver) (incoming : Bool) (r : EndpointRequest)
     → allocateNumbers (allocateResult d incoming r .answer) ≡ numbersFor (allocateCheck d incoming r) d incoming r
@@ -47,13 +28,6 @@ allocate-numbers d incoming r = go (allocateCheck d incoming r)
 pub allocate-told : (x : AllocateResult) (d : Driver) (incoming : Bool) (r : EndpointRequest) → x ≡ allocateResult d incoming r
     → (x ≡ allocateResult d incoming r) × (allocateNumbers (x .answer) ≡ numbersFor (allocateCheck d incoming r) d incoming r)
 allocate-told x d incoming r e = (e, rw e (allocate-numbers d incoming r))
-
--- where a driver can be made, its aligned start is a 32-bit address
-pub new-start : (a l : ℕ) → newCheck a l ≡ Fits → up4 a < 2 ^ 32
-unfolding newCheck
-new-start a l h =
-    let inside : inRam a l ≡ true = not-false _ (not-due (none-due (newConditions a l) h) .0) in
-    omega (arith, in-ram a l inside .high)
 
 pub accepted-request : (d : Driver) (incoming : Bool) (r : EndpointRequest) → allocateCheck d incoming r ≡ Fits → AcceptedRequest d incoming r
 unfolding allocateCheck
@@ -79,10 +53,6 @@ placeable d incoming r h =
     record { memory = omega (arith, a .room, a .driver .ram .high) }
 
 -- Each refusal is given exactly where it is the first that is due, and none where none is.
-pub new-bound : (address length : ℕ) → Bound (newConditions address length) (newCheck address length)
-unfolding newCheck
-new-bound address length = bound (newConditions address length)
-
 pub allocate-bound : (d : Driver) (incoming : Bool) (r : EndpointRequest) → Bound (allocateConditions d incoming r) (allocateCheck d incoming r)
 unfolding allocateCheck
 allocate-bound d incoming r = bound (allocateConditions d incoming r)

@@ -1,6 +1,6 @@
 -- What an endpoint may be, and where its buffer lies (document 01, allocation).
 -- Assumes nothing.
-use Prim.Native.Nat.{ℕ, zero, suc, _+_, _*_, _/_}
+use Prim.Native.Nat.{ℕ, zero, suc, _+_, _*_}
 use mathlib.Core.Bool.{Bool, false, _&&_, _||_, not, cond, Bool·beq}
 use lib.Dec.{eqb, leb}
 use Rattle.state.specs.declared.EndpointType.{EndpointType}
@@ -9,10 +9,7 @@ use Rattle.state.specs.declared.EndpointRequest.{EndpointRequest}
 use Rattle.state.specs.declared.Driver.{Driver}
 use Rattle.state_slots.specs.Slots.{slotNumber}
 use Rattle.state.specs.Fresh.{allocationAt}
-
--- the next multiple of 4, n itself if it is one
-abbrev pub up4 : ℕ → ℕ
-up4 n = (n + 3) / 4 * 4
+use Rattle.driver_new.specs.New.{up4}
 
 -- which rules endpoints are held to; there is one set of them
 pub data Profile : Type 0 where

@@ -1,11 +1,11 @@
-// Making a driver and allocating its endpoints (reference: `Driver::new` and `allocate` of device.rs).
+// Allocating the endpoints of a driver (reference: `Driver::allocate` of device.rs).
 ghost use mathlib.Core.Path.{_≡_};
 ghost use Prim.Native.Nat.{_≤_, _+_, _*_};
 ghost use mathlib.Core.Bool.{_&&_, cond};
 ghost use lib.Dec.{eqb};
-ghost use Rattle.state.specs.Numbers.{checkNumber};
-ghost use Rattle.driver_allocate.specs.Rules.{present, up4, sizeFits, burstFits, directionFits, available, lowest};
-ghost use Rattle.driver_allocate.specs.Allocate.{capacityOf, newCheck, newNumber, emptyDriver, newResult, allocateCheck, Placeable, placed, allocateResult, allocateNumbers, numbersFor};
+ghost use Rattle.driver_new.specs.New.{up4};
+ghost use Rattle.driver_allocate.specs.Rules.{present, sizeFits, burstFits, directionFits, available, lowest};
+ghost use Rattle.driver_allocate.specs.Allocate.{allocateCheck, Placeable, placed, allocateResult, allocateNumbers, numbersFor};
 use state::Allocation;
 use state::Buffer;
 use state::Check;
@@ -15,17 +15,6 @@ use state::EndpointRequest;
 use state::EndpointType;
 use state::Refusal;
 
-pub enum NewAnswer {
-    Refused(Refusal),
-    Made,
-}
-
-// Where creation is refused, `driver` has no memory and every call refuses it.
-pub struct NewResult {
-    pub answer: NewAnswer,
-    pub driver: Driver,
-}
-
 pub enum AllocateAnswer {
     Refused(Refusal),
     Endpoint(EndpointConfig),
@@ -34,25 +23,6 @@ pub enum AllocateAnswer {
 pub struct AllocateResult {
     pub answer: AllocateAnswer,
     pub driver: Driver,
-}
-
-// The next multiple of 4, `n` itself if it is one.
-fn up4_of(n: u32) -> u64
-    ensures { λ r. ⌜ r ≡ up4 n ⌝ }
-{
-    ((n as u64) + 3) / 4 * 4
-}
-
-// What is left of the memory once its start is aligned.
-fn capacity_of(address: u32, length: u32) -> u32
-    ensures { λ r. ⌜ r ≡ capacityOf address length ⌝ }
-{
-    let gap = up4_of(address) - (address as u64);
-    let bytes = length as u64;
-    if gap < bytes {
-        return (bytes - gap) as u32;
-    }
-    0
 }
 
 fn packet_size_valid(ep_type: EndpointType, size: u16, interval: u8) -> bool
@@ -123,17 +93,8 @@ fn size_of(size: u16, burst: u8) -> u32
 fn end_of(used: u32, size: u32) -> u64
     ensures { λ r. ⌜ r ≡ up4 used + size ⌝ }
 {
-    let start = up4_of(used);
+    let start = driver_new::up4_of(used);
     start + (size as u64)
-}
-
-fn new_check(address: u32, length: u32) -> Check
-    ensures { λ r. ⌜ r ≡ newCheck address length ⌝ }
-{
-    let inside = state_sound::in_ram(address, length);
-    let capacity = capacity_of(address, length);
-    let small = state::refusals::refuse_if(capacity < 512, Refusal::MemoryTooSmall, Check::Fits);
-    state::refusals::refuse_if(!inside, Refusal::MemoryOutsideRam, small)
 }
 
 fn allocate_check(driver: Driver, incoming: bool, request: EndpointRequest) -> Check
@@ -156,57 +117,13 @@ fn allocate_check(driver: Driver, incoming: bool, request: EndpointRequest) -> C
     state::refusals::refuse_if(!sound, Refusal::Unsound, kind)
 }
 
-// A driver that has no endpoints.
-fn empty(memory: u32, capacity: u32, used: u32) -> Driver
-    ensures { λ r. ⌜ r ≡ emptyDriver memory capacity used ⌝ }
-{
-    let slot = state::fresh::fresh_slot();
-    let config = slot.config;
-    let none = Allocation {
-        configured: false,
-        config: config,
-    };
-    Driver {
-        memory: memory,
-        capacity: capacity,
-        used: used,
-        endpoints: [none; 16],
-    }
-}
-
-// A driver whose memory is the `length` bytes from `address` on.
-pub fn new(address: u32, length: u32) -> NewResult
-    ensures result { λ r. ⌜ r ≡ newResult address length ⌝ }
-    ensures number { λ r. ⌜ newNumber (r .answer) ≡ checkNumber (newCheck address length) ⌝ }
-{
-    let check = new_check(address, length);
-    match check {
-        Check::Fits => {
-            let memory = up4_of(address) as u32;
-            let capacity = capacity_of(address, length);
-            let driver = empty(memory, capacity, 512);
-            NewResult {
-                answer: NewAnswer::Made,
-                driver: driver,
-            }
-        }
-        Check::Refused(refusal) => {
-            let none = empty(0, 0, 0);
-            NewResult {
-                answer: NewAnswer::Refused(refusal),
-                driver: none,
-            }
-        }
-    }
-}
-
 // The endpoint that an accepted request gets, and the driver with it.
 fn place(driver: Driver, incoming: bool, request: EndpointRequest) -> AllocateResult
     requires { ⌜ Placeable driver incoming request ⌝ }
     ensures { λ r. ⌜ r ≡ placed driver incoming request ⌝ }
 {
     let e = free_endpoint(driver, incoming, request.requested, request.index);
-    let start = up4_of(driver.used) as u32;
+    let start = driver_new::up4_of(driver.used) as u32;
     let size = size_of(request.max_packet_size, request.max_burst);
     let ep_type = request.ep_type;
     let address = driver.memory + start;

@@ -28,9 +28,10 @@ use Rattle.state_sound.specs.Clauses.{inRam, aligned}
 use Rattle.state_sound.specs.Sound.{configb, driverSoundb}
 use Rattle.state_sound.specs.FactLaws.{InRam, in-ram, in-ram-is, DriverFacts, driver-is}
 use Rattle.state_call.specs.Outcome.{orElse}
+use Rattle.driver_new.specs.New.{newConditions, newCheck, newDriver, noDriver, newResult, capacityOf}
 use Rattle.driver_allocate.specs.Rules.{present, periodicFits, sizeFits, endpointFor, available, startFor, sizeFor}
 use Rattle.driver_allocate.specs.RulesLaws.{lowest-most, slot-small}
-use Rattle.driver_allocate.specs.Allocate.{newConditions, newCheck, newDriver, noDriver, newResult, capacityOf, allocateCheck, allocateAt, allocateResult, configFor, driverWith, placed, AcceptedRequest}
+use Rattle.driver_allocate.specs.Allocate.{allocateCheck, allocateAt, allocateResult, configFor, driverWith, placed, AcceptedRequest}
 use Rattle.driver_allocate.specs.AllocateLaws.{accepted-request}
 
 abbrev pub bufferAt : Driver → ℕ → Buffer

@@ -11,7 +11,8 @@ use Rattle.state.specs.declared.Driver.{Driver}
 use Rattle.state_slots.specs.Slots.{slotNumber}
 use Rattle.state.specs.Fresh.{allocationAt}
 use Rattle.base.specs.EachLaws.{and-left, and-right, implied}
-use Rattle.driver_allocate.specs.Rules.{up4, lowest, available, endpointFor}
+use Rattle.driver_new.specs.New.{up4}
+use Rattle.driver_allocate.specs.Rules.{lowest, available, endpointFor}
 
 pub up4-above : (n : ℕ) → n ≤ up4 n
 up4-above n = omega arith

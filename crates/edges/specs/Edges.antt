@@ -25,8 +25,9 @@ use Rattle.base.specs.Ceil.{divCeil}
 use Rattle.state_events.specs.Bytes.{suspend, resume}
 use Rattle.state_sound.specs.Sound.{driverSoundb, soundb}
 use Rattle.state_call.specs.Outcome.{orElse}
+use Rattle.driver_new.specs.New.{newCheck, newResult, newNumber}
 use Rattle.driver_allocate.specs.Rules.{lowest}
-use Rattle.driver_allocate.specs.Allocate.{newCheck, newResult, newNumber, allocateCheck, placed, allocateResult, allocateNumbers}
+use Rattle.driver_allocate.specs.Allocate.{allocateCheck, placed, allocateResult, allocateNumbers}
 use Rattle.transfer_chain.specs.Chains.{chainPackets, chainBytes}
 use Rattle.transfer_window.specs.Window.{outWindow, windowsOps}
 use Rattle.transfer_begin.specs.Begin.{beginCall}

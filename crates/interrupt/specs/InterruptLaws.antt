@@ -12,24 +12,27 @@ use Rattle.state.specs.declared.Awaited.{Awaited}
 use Rattle.state.specs.declared.Reading.{Reading}
 use Rattle.state.specs.declared.State.{State}
 use Rattle.state.specs.declared.Events.{Events}
+use Rattle.state.specs.declared.Wakes.{Wakes}
 use Rattle.state.specs.declared.Check.the-variants as check
 use Rattle.state.specs.declared.Refusal.{Refusal}
-use Rattle.state.specs.Awaiting.{awaitingNumber}
+use Rattle.state.specs.Awaiting.{awaitingNumber, awaitingb}
+use Rattle.state.specs.Fresh.{nothingAwaited}
 use Rattle.state.specs.Refusals.{Condition, firstRefusal, FirstIs, here, later, Bound}
 use Rattle.state.specs.RefusalsLaws.{bound, refused-if, none-due, not-due}
-use Rattle.state.specs.Setters.{withLink}
+use Rattle.state.specs.Setters.{withLink, withWake, withAwaited}
+use Rattle.state_slots.specs.Completing.{collected}
 use Rattle.state_slots.specs.Waking.{noWakes}
 use Rattle.state_sound.specs.Sound.{soundb}
 use Rattle.state_call.specs.Outcome.{Outcome, orElse, refusal}
 use Rattle.state_call.specs.OutcomeLaws.{or-part}
 use Rattle.transfer_window.specs.Window.{inHandCount, windowOf}
 use Rattle.bus_reset.specs.Reset.{busResetState}
-use Rattle.control_report.specs.Ep0.{setupReceived}
+use Rattle.control_report.specs.Ep0.{setupReceived, resetBy}
 use Rattle.interrupt_link.specs.declared.LinkEffect.{LinkEffect}
 use Rattle.interrupt_asks.specs.declared.InterruptAnswer.{InterruptAnswer}
-use Rattle.interrupt_asks.specs.declared.InterruptAnswer.the-variants.{Refused}
+use Rattle.interrupt_asks.specs.declared.InterruptAnswer.the-variants.{Refused, Awaits, Ended}
 use Rattle.interrupt_asks.specs.Settled.{settled, interruptNumbers}
-use Rattle.interrupt_asks.specs.SettledLaws.{settled-numbers}
+use Rattle.interrupt_asks.specs.SettledLaws.{settled-parts, settled-numbers}
 use Rattle.interrupt_transfer.specs.declared.TransferEffect.{TransferEffect}
 use Rattle.interrupt_transfer.specs.Transfers.{Turned}
 use Rattle.interrupt_transfer.specs.Pieces.{sightOf, piecesOf, placed, afterPieces, turnedTo}
@@ -123,7 +126,7 @@ module _ (room : ℕ) (s : State) (v : Events) (r : Reading) where
       cond b (linkBoth (piecesOf s i) h)
       (transferBoth (linkBefore s v) (heardPieces (sightOf s (windowOf (inHandCount s (slotsHeard (s .awaited .next))))) (s .awaited) i (piecesOf s i) m))
 
-  pub heard-settled : door room (soundb s v) ≡ check.Fits → firstRefusal (readingOwn (s .awaited .next) r) ≡ check.Fits
+  heard-settled : door room (soundb s v) ≡ check.Fits → firstRefusal (readingOwn (s .awaited .next) r) ≡ check.Fits
       → settled (reacted s i (heardIn s v r .link) (heardIn s v r .transfer)) (heardIn s v r .link .events) (heardIn s v r .awaited) (heardIn s v r .ops) ≡ answerCall room s v r
   unfolding answerCall orElse heardBy linkTurned piecesTurned
   heard-settled e f = rw (through room (soundb s v) (readingOwn (s .awaited .next) r) e, f) (go (leb (awaitingNumber (s .awaited .next)) 6))
@@ -136,9 +139,23 @@ module _ (room : ℕ) (s : State) (v : Events) (r : Reading) where
           rw (transfer-reacted s v i (both false .transfer), k .state, k .awaited, k .ops)
 
   -- the same of what was heard, under other names
-  pub settled-as : (k : ℕ) (l : LinkEffect) (f : TransferEffect) (a : Awaited) → door room (soundb s v) ≡ check.Fits → firstRefusal (readingOwn (s .awaited .next) r) ≡ check.Fits
+  settled-as : (k : ℕ) (l : LinkEffect) (f : TransferEffect) (a : Awaited) → door room (soundb s v) ≡ check.Fits → firstRefusal (readingOwn (s .awaited .next) r) ≡ check.Fits
       → k ≡ i → l ≡ heardIn s v r .link → f ≡ heardIn s v r .transfer → a ≡ heardIn s v r .awaited → settled (reacted s k l f) (l .events) a (heardIn s v r .ops) ≡ answerCall room s v r
   settled-as k l f a d e p q t u = rw (p, q, t, u) (heard-settled d e)
+
+  -- the call's parts, of the state t behind what resets, and of how the call ends
+  pub ended-as : (t : State) (k : ℕ) (l : LinkEffect) (f : TransferEffect) (a left : Awaited) (answer : InterruptAnswer) (wake : ℕ) (wakes : Wakes)
+      → door room (soundb s v) ≡ check.Fits → firstRefusal (readingOwn (s .awaited .next) r) ≡ check.Fits
+      → k ≡ i → l ≡ heardIn s v r .link → f ≡ heardIn s v r .transfer → a ≡ heardIn s v r .awaited
+      → t ≡ cond (l .resets || f .received) (resetBy (l .resets) (placed s k f) (f .setup)) (placed s k f)
+      → (left ≡ cond (awaitingb (a .next)) a nothingAwaited)
+      × ((answer ≡ cond (awaitingb (a .next)) (Awaits (a .next)) Ended)
+      × ((wake ≡ cond (awaitingb (a .next)) (t .wake) 0) × (wakes ≡ cond (awaitingb (a .next)) noWakes (collected (l .events) (t .wake)))))
+      → (answer ≡ answerCall room s v r .answer)
+      × ((withAwaited (withWake (withLink t (linkFlagsOf l)) wake) left ≡ answerCall room s v r .state)
+      × ((l .events ≡ answerCall room s v r .events) × ((heardIn s v r .ops ≡ answerCall room s v r .ops) × (wakes ≡ answerCall room s v r .wakes))))
+  ended-as t k l f a left answer wake wakes d e p q u w j x =
+      rw (← settled-as k l f a d e p q u w, x .0, x .1 .0, x .1 .1 .0, x .1 .1 .1, j) (settled-parts (reacted s k l f) (l .events) a (heardIn s v r .ops))
 
 -- The numbers of an answer are the paper's.
 answered-numbers : (s : State) (v : Events) (m : Matched) → interruptNumbers (answered s v m .answer) ≡ 0 ∷ awaitingNumber (nextAwaiting s v m) ∷ []

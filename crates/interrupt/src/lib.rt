@@ -25,52 +25,46 @@ pub fn answer(ops: &mut [u32], state: State, events: Events, reading: Reading) -
     ensures numbers { λ r. ⌜ interruptNumbers (r .answer) ≡ answerSays (length (now (ops .entry))) state events reading ⌝ }
 {
     let mut s = state;
-    let good = state_sound::sound(s, events);
+    let good = state_sound::sound(state, events);
     let open = interrupt_begin::is_open(ops.len(), good);
     if let Check::Refused(refusal) = open {
-        return interrupt_begin::refused(refusal, s, events);
+        return interrupt_begin::refused(refusal, state, events);
     }
-    let awaited = s.awaited;
-    let before = awaited.next;
-    let most = interrupt_hear::slots_heard(before);
+    let most = interrupt_hear::slots_heard(state.awaited);
     let mut count: u32 = 0;
     let mut n: usize = 0;
     while n < most {
         let k = n + 2;
-        let x = s.endpoints[k];
-        let phase = x.phase;
-        let idle = state_slots::is_idle(phase);
-        count = count + !idle as u32;
+        count = transfer_window::counted(count, s.endpoints[k]);
         n = n + 1;
     }
     let window = transfer_window::window_of(count);
-    let i = interrupt_hear::slot_heard(awaited, reading);
-    let slot = s.endpoints[i];
-    let setup = s.setup;
+    let i = interrupt_hear::slot_heard(state.awaited, reading);
+    let setup = state.setup;
     let heard = interrupt_hear::hear(
         ops,
-        s.ep0_address,
-        s.revision,
+        state.ep0_address,
+        state.revision,
         Sight {
             limit: CHAIN_PACKETS,
             window: window,
-            address: s.address,
-            in_last: s.in_last,
+            address: state.address,
+            in_last: state.in_last,
         },
-        awaited,
+        state.awaited,
         LinkEffect {
             resets: false,
-            suspended: s.suspended,
-            reset_seen: s.reset_seen,
-            low_power: s.low_power,
+            suspended: state.suspended,
+            reset_seen: state.reset_seen,
+            low_power: state.low_power,
             events: events,
         },
         i,
         TransferEffect {
-            slot: slot,
-            wake: s.wake,
-            has_address: s.has_address,
-            tx_seq: s.tx_seq,
+            slot: s.endpoints[i],
+            wake: state.wake,
+            has_address: state.has_address,
+            tx_seq: state.tx_seq,
             received: false,
             setup: setup,
         },
@@ -78,32 +72,26 @@ pub fn answer(ops: &mut [u32], state: State, events: Events, reading: Reading) -
     );
     let check = heard.check;
     if let Check::Refused(refusal) = check {
-        return interrupt_begin::refused(refusal, s, events);
+        return interrupt_begin::refused(refusal, state, events);
     }
-    let link = heard.link;
-    let transfer = heard.transfer;
-    let y = transfer.slot;
+    let y = heard.transfer.slot;
     s.endpoints[i] = y;
-    s.wake = transfer.wake;
-    s.has_address = transfer.has_address;
-    s.tx_seq = transfer.tx_seq;
-    if link.resets | transfer.received {
-        let bytes = transfer.setup;
-        s = control_report::reset_by(link.resets, s, bytes);
+    s.wake = heard.transfer.wake;
+    s.has_address = heard.transfer.has_address;
+    s.tx_seq = heard.transfer.tx_seq;
+    if heard.link.resets | heard.transfer.received {
+        s = control_report::reset_by(heard.link.resets, s, heard.transfer.setup);
     }
-    let asks = heard.awaited;
-    let next = asks.next;
-    let awaiting = state::readings::is_awaiting(next);
-    let after = link.events;
-    let wakes = interrupt_asks::woken(awaiting, after, s.wake);
-    let answer = interrupt_asks::said(awaiting, next);
-    let wake = interrupt_asks::left_wake(awaiting, s.wake);
-    let left = interrupt_asks::left_awaited(awaiting, asks);
-    s.suspended = link.suspended;
-    s.reset_seen = link.reset_seen;
-    s.low_power = link.low_power;
-    s.wake = wake;
+    let ending = interrupt_asks::settle(heard.awaited, heard.link.events, s.wake);
+    let left = ending.awaited;
+    s.suspended = heard.link.suspended;
+    s.reset_seen = heard.link.reset_seen;
+    s.low_power = heard.link.low_power;
+    s.wake = ending.wake;
     s.awaited = left;
+    let after = heard.link.events;
+    let answer = ending.answer;
+    let wakes = ending.wakes;
     InterruptResult {
         state: s,
         events: after,

@@ -35,6 +35,14 @@ pub struct InterruptResult {
     pub wakes: Wakes,
 }
 
+// How a call ends: what is still awaited, what it says, whom it leaves to be woken, and whom it wakes.
+pub struct Ending {
+    pub awaited: Awaited,
+    pub answer: InterruptAnswer,
+    pub wake: u16,
+    pub wakes: Wakes,
+}
+
 // The reading that is asked for next, or none, and where the list ends.
 pub struct Asked {
     pub next: Awaiting,
@@ -144,7 +152,7 @@ pub fn ask(awaited: Awaited, next: Awaiting) -> Awaited
 }
 
 // Where handling has ended, nothing is awaited or remembered,
-pub fn left_awaited(awaiting: bool, awaited: Awaited) -> Awaited
+fn left_awaited(awaiting: bool, awaited: Awaited) -> Awaited
     ensures { λ r. ⌜ r ≡ cond awaiting awaited nothingAwaited ⌝ }
 {
     if awaiting {
@@ -177,4 +185,24 @@ pub fn said(awaiting: bool, next: Awaiting) -> InterruptAnswer
         return InterruptAnswer::Awaits(next);
     }
     InterruptAnswer::Ended
+}
+
+pub fn settle(awaited: Awaited, events: Events, wake: u16) -> Ending
+    ensures awaited { λ r. ⌜ r .awaited ≡ cond (awaitingb (awaited .next)) awaited nothingAwaited ⌝ }
+    ensures answer { λ r. ⌜ r .answer ≡ cond (awaitingb (awaited .next)) (Awaits (awaited .next)) Ended ⌝ }
+    ensures wake { λ r. ⌜ r .wake ≡ cond (awaitingb (awaited .next)) wake 0 ⌝ }
+    ensures wakes { λ r. ⌜ r .wakes ≡ cond (awaitingb (awaited .next)) noWakes (collected events wake) ⌝ }
+{
+    let next = awaited.next;
+    let awaiting = state::readings::is_awaiting(next);
+    let asks = left_awaited(awaiting, awaited);
+    let answer = said(awaiting, next);
+    let left = left_wake(awaiting, wake);
+    let wakes = woken(awaiting, events, wake);
+    Ending {
+        awaited: asks,
+        answer: answer,
+        wake: left,
+        wakes: wakes,
+    }
 }

@@ -1,4 +1,4 @@
-// The transfer status and the readings of a chain, and which reading of the transfers is heard (reference: `transfer_irq` and
+// The readings of a chain, and which reading of the transfers is heard (reference: `transfer_irq` and
 // `data_irq` of device.rs).
 ghost use mathlib.Core.Path.{_≡_};
 ghost use mathlib.Core.List.{[]};
@@ -16,52 +16,11 @@ ghost use Rattle.interrupt_followers.specs.Pieces.{piecesTurned};
 use interrupt_followers::Turn;
 use interrupt_transfer::Sight;
 use interrupt_transfer::TransferEffect;
-use interrupt_transfer::TransferTurn;
 use state::Awaited;
 use state::Awaiting;
 use state::Check;
 use state::Reading;
 use state::Refusal;
-
-fn accepted(turn: TransferTurn) -> Turn
-    ensures check { λ r. ⌜ r .check ≡ Fits ⌝ }
-    ensures effect { λ r. ⌜ r .effect ≡ turn .effect ⌝ }
-    ensures awaited { λ r. ⌜ r .awaited ≡ turn .awaited ⌝ }
-    ensures end { λ r. ⌜ r .end ≡ turn .end ⌝ }
-{
-    let effect = turn.effect;
-    let awaited = turn.awaited;
-    Turn {
-        check: Check::Fits,
-        effect: effect,
-        awaited: awaited,
-        end: turn.end,
-    }
-}
-
-fn on_transfer_status(
-    ops: &mut [u32],
-    sight: Sight,
-    awaited: Awaited,
-    i: usize,
-    effect: TransferEffect,
-    reading: Reading,
-) -> Turn
-    requires { ⌜ listNumbers ≤ length (now ops) ⌝ }
-    ensures check { λ r. ⌜ r .check ≡ firstRefusal (readingOwn awaiting.TransferStatus reading) ⌝ }
-    ensures effect { λ r. ⌜ r .effect ≡ piecesTurned sight awaited i effect awaiting.TransferStatus reading .effect ⌝ }
-    ensures awaited { λ r. ⌜ r .awaited ≡ piecesTurned sight awaited i effect awaiting.TransferStatus reading .awaited ⌝ }
-    ensures list { λ r. ⌜ Wrote (now (ops .entry)) 0 (piecesTurned sight awaited i effect awaiting.TransferStatus reading .ops) (r .end) (now (ops .exit)) ⌝ }
-{
-    let Reading::TransferStatus(status) = reading else {
-        return interrupt_followers::refused(Refusal::OutOfTurn, awaited, effect);
-    };
-    if 15 < status.ep_id {
-        return interrupt_followers::refused(Refusal::OutOfRange, awaited, effect);
-    }
-    let turn = interrupt_transfer::status_turn(ops, 0, sight, awaited, i, effect, status);
-    accepted(turn)
-}
 
 fn on_chain_packets(awaited: Awaited, effect: TransferEffect, reading: Reading) -> Turn
     ensures check { λ r. ⌜ r .check ≡ firstRefusal (readingOwn awaiting.ChainPackets reading) ⌝ }
@@ -116,7 +75,7 @@ fn on_last_length(
         awaited.packets as u32,
         last,
     );
-    accepted(turn)
+    interrupt_status::accepted(turn)
 }
 
 // A reading while one of the transfers is awaited.
@@ -137,7 +96,14 @@ pub fn hear_transfer(
 {
     let next = awaited.next;
     match next {
-        Awaiting::TransferStatus => on_transfer_status(ops, sight, awaited, i, effect, reading),
+        Awaiting::TransferStatus => interrupt_status::on_transfer_status(
+            ops,
+            sight,
+            awaited,
+            i,
+            effect,
+            reading,
+        ),
         Awaiting::SetupBytes => interrupt_followers::on_setup_bytes(awaited, effect, reading),
         Awaiting::Ep0Length => interrupt_followers::on_ep0_length(
             ops,

@@ -13,7 +13,6 @@ use interrupt_link::LinkEffect;
 use interrupt_transfer::Sight;
 use interrupt_transfer::TransferEffect;
 use state::Awaited;
-use state::Awaiting;
 use state::Check;
 use state::Reading;
 use state::TransferStatus;
@@ -28,10 +27,11 @@ pub struct Heard {
 }
 
 // How many slots are counted for the window, which only the end of an OUT chain asks for.
-pub fn slots_heard(next: Awaiting) -> usize
+pub fn slots_heard(awaited: Awaited) -> usize
     ensures few { λ r. ⌜ r ≤ 14 ⌝ }
-    ensures value { λ r. ⌜ r ≡ slotsHeard next ⌝ }
+    ensures value { λ r. ⌜ r ≡ slotsHeard (awaited .next) ⌝ }
 {
+    let next = awaited.next;
     let place = state::readings::awaiting_number(next);
     if place == 12 { 14 } else { 0 }
 }

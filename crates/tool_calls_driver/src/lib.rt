@@ -2,7 +2,7 @@
 mod request;
 
 use driver_allocate::AllocateAnswer;
-use driver_allocate::NewAnswer;
+use driver_new::NewAnswer;
 use tool_words::Word;
 use world::World;
 
@@ -22,7 +22,7 @@ pub fn call(world: World, word: Word, line: &[u8]) -> World {
 fn driver(world: World, line: &[u8]) -> World {
     let address = tool_scripts::number(line, 0);
     let length = tool_scripts::number(line, 1);
-    let made = driver_allocate::new(address, length);
+    let made = driver_new::new(address, length);
     let answer = made.answer;
     match answer {
         NewAnswer::Refused(refusal) => {

@@ -1,6 +1,6 @@
 // The power, on and off.
-use bus_power::PowerAnswer;
-use bus_power::PowerResult;
+use bus_power_off::PowerAnswer;
+use bus_power_off::PowerResult;
 use tool_words::Word;
 use world::World;
 
@@ -20,14 +20,14 @@ fn on(list: &mut [u32; 640], world: World, line: &[u8]) -> World {
     let revision = tool_scripts::number(line, 0);
     let state = world.state;
     let events = world.events;
-    let result = bus_power::power_on(list, state, events, revision);
+    let result = bus_power_on::power_on(list, state, events, revision);
     powered(list, world, result)
 }
 
 fn off(list: &mut [u32; 640], world: World) -> World {
     let state = world.state;
     let events = world.events;
-    let result = bus_power::power_off(list, state, events);
+    let result = bus_power_off::power_off(list, state, events);
     powered(list, world, result)
 }
 

@@ -5,7 +5,7 @@ use state::EndpointType;
 
 // Endpoint 1 in both directions, 2 for IN, 3 for OUT, and 4 for IN, which isn't used.
 pub fn driver() -> Driver {
-    let made = driver_allocate::new(0x200A_0000, 8192);
+    let made = driver_new::new(0x200A_0000, 8192);
     let empty = made.driver;
     let a = endpoint(empty, true, 1, EndpointType::Bulk, 1024);
     let b = endpoint(a, false, 1, EndpointType::Bulk, 1024);

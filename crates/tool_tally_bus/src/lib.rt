@@ -12,12 +12,12 @@ pub fn started(events: Events) -> State {
 }
 
 pub fn on(list: &mut [u32; 640], state: State, events: Events) -> State {
-    let on = bus_power::power_on(list, state, events, 3);
+    let on = bus_power_on::power_on(list, state, events, 3);
     on.state
 }
 
 pub fn off(list: &mut [u32; 640], state: State, events: Events) -> State {
-    let off = bus_power::power_off(list, state, events);
+    let off = bus_power_off::power_off(list, state, events);
     off.state
 }
 

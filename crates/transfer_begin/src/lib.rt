@@ -46,13 +46,12 @@ pub fn begin(
     ensures number { λ r. ⌜ beginNumber (r .answer) ≡ checkNumber (firstRefusal (beginConditions (listLength (now (ops .entry))) state events index incoming (piece address length zlp) long unfit)) ⌝ }
 {
     let mut s = state;
-    let good = state_sound::sound(s, events);
-    let awaited = s.awaited;
+    let good = state_sound::sound(state, events);
     let wakes = state_slots::waking::no_wakes();
     let i = state_slots::slot_place(index, incoming);
     let slot = s.endpoints[i];
     let further = transfer_piece::slot_check(
-        s.powered,
+        state.powered,
         index,
         incoming,
         slot,
@@ -61,10 +60,10 @@ pub fn begin(
         long,
         unfit,
     );
-    let check = state_call::admit(ops.len(), good, awaited, further);
+    let check = state_call::admit(ops.len(), good, state.awaited, further);
     if let Check::Refused(refusal) = check {
         return BeginResult {
-            state: s,
+            state: state,
             answer: BeginAnswer::Refused(refusal),
             end: 0,
             wakes: wakes,
@@ -77,10 +76,7 @@ pub fn begin(
     let mut n: usize = 0;
     while n < 14 {
         let k = n + 2;
-        let x = s.endpoints[k];
-        let phase = x.phase;
-        let idle = state_slots::is_idle(phase);
-        count = count + !idle as u32;
+        count = transfer_window::counted(count, s.endpoints[k]);
         n = n + 1;
     }
     let window = transfer_window::window_of(count);
@@ -90,10 +86,7 @@ pub fn begin(
     while e < 7 {
         let next = e + 1;
         let k = state_slots::slot_number(next, false);
-        let x = s.endpoints[k];
-        let phase = x.phase;
-        let busy = state_slots::is_busy(phase);
-        a = transfer_window::window_at(ops, a, busy, window, next);
+        a = transfer_window::window_at(ops, a, s.endpoints[k], window, next);
         e = next;
     }
     let queued = transfer_chain::queue(ops, a, CHAIN_PACKETS, index, incoming, y);

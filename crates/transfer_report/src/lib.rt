@@ -81,10 +81,7 @@ pub fn report(
     let mut n: usize = 0;
     while n < most {
         let k = n + 2;
-        let x = s.endpoints[k];
-        let phase = x.phase;
-        let idle = state_slots::is_idle(phase);
-        count = count + !idle as u32;
+        count = transfer_window::counted(count, s.endpoints[k]);
         n = n + 1;
     }
     let window = transfer_window::window_of(count);

@@ -1,6 +1,6 @@
 // What a script's calls stand on.
 ghost use mathlib.Core.Path.{_≡_};
-ghost use Rattle.driver_allocate.specs.Allocate.{newResult};
+ghost use Rattle.driver_new.specs.New.{newResult};
 ghost use Rattle.state.specs.Fresh.{freshState};
 use state::Driver;
 use state::Events;
@@ -17,7 +17,7 @@ pub struct World {
 pub fn fresh() -> World
     ensures { λ r. ⌜ r ≡ record { driver = newResult 0 0 .driver; state = freshState; events = record { events = 0 } } ⌝ }
 {
-    let none = driver_allocate::new(0, 0);
+    let none = driver_new::new(0, 0);
     let driver = none.driver;
     let state = state::fresh::fresh();
     World {

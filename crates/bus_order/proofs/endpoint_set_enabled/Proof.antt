@@ -11,11 +11,11 @@ sound-requires c κs = search needs
 slot-place-requires : tie.Need-slot-place-requires
 slot-place-requires c κs = search needs
 
-mul-x : tie.Need-mul-x
-mul-x c = search needs
+mul-obey : tie.Need-mul-obey
+mul-obey c = search needs
 
-element-copy-out-x : tie.Need-element-copy-out-x
-element-copy-out-x c = search needs
+element-copy-out-obey : tie.Need-element-copy-out-obey
+element-copy-out-obey c = search needs
 
 obey-requires : tie.Need-obey-requires
 obey-requires c κs = search needs
@@ -33,7 +33,7 @@ returns : tie.Need-returns
 returns c =
     let o = c .before .before .before .before in
     let p = o .before .before .before in
-    let g = p .before .before in
+    let g = p .before in
     let a = g .before .before .args in
     let e = rw (g .sound .ensures, p .slot-place .ensures) at (o .obey .ensures) in
     rw (p .slot-place .ensures) (order-told (o .obey .result) _ _ (a .state) (a .events) (a .index) (a .incoming) (Enable (a .enabled)) (e .0) (e .1))
@@ -44,8 +44,8 @@ endpoint-set-enabled-spec =
     (tie.spec
     sound-requires
     slot-place-requires
-    mul-x
-    element-copy-out-x
+    mul-obey
+    element-copy-out-obey
     obey-requires
     mul-y
     element-set-from-y

@@ -2,7 +2,6 @@
 use borrow.Author.Needs.{needs}
 use Prim.Native.Nat.{_≤_, _<_, _-_}
 use native.Mathlib.Omega.{arith}
-use mathlib.Core.Bool.{not}
 use mathlib.Core.Path.{_≡_, ap, sym, _∙_}
 use denote.Ref.{now}
 use lib.ListN.{length}
@@ -11,10 +10,9 @@ use Rattle.ops.specs.WroteLaws.{same, none, wrote-length, _▹_}
 use Rattle.ops.specs.Sequence.{upTo}
 use Rattle.ops.specs.SequenceLaws.{upTo-start, upTo-next}
 use Rattle.state.specs.Setters.{withSlot}
-use Rattle.base.specs.BitsLaws.{bit-small}
-use Rattle.base.specs.EachLaws.{count-none, count-step}
+use Rattle.base.specs.EachLaws.{count-none}
 use Rattle.transfer_window.specs.Window.{inHandCount, windowOf, outWindow, windowAt, windowsOps}
-use Rattle.transfer_window.specs.WindowLaws.{windows-most}
+use Rattle.transfer_window.specs.WindowLaws.{count-next, windows-most}
 use Rattle.state.specs.declared.State.{State}
 use Rattle.ops.specs.Ops.{listNumbers}
 use Rattle.state.specs.Refusals.{firstRefusal}
@@ -39,7 +37,7 @@ abbrev μ-loop2 : tie.MeasureT-loop2
 μ-loop2 ops₀ index incoming address length zlp long unfit s good wakes i y count n window a₀ e₀ ops a e = 7 - e
 
 abbrev start : tie.After-admit Inv-loop μ-loop Inv-loop2 μ-loop2 → tie.Start Inv-loop μ-loop Inv-loop2 μ-loop2
-start c = c .before .before .before .before .before .before .before .before
+start c = c .before .before .before .before .before .before .before
 
 abbrev asked : tie.After-admit Inv-loop μ-loop Inv-loop2 μ-loop2 → Piece
 asked c = piece (start c .args .address) (start c .args .length) (start c .args .zlp)
@@ -50,7 +48,7 @@ checked c =
     let a = start c .args in
     let p = c .before .before .before in
     sym (check-place (length (now (a .ops))) (a .state) (a .events) (a .index) (a .incoming) (asked c) (a .long) (a .unfit))
-    ∙ sym (rw (c .before .slot-check .ensures, p .before .before .before .sound .ensures, p .slot-place .ensures) at (c .admit .ensures))
+    ∙ sym (rw (c .before .slot-check .ensures, p .before .before .sound .ensures, p .slot-place .ensures) at (c .admit .ensures))
 
 abbrev tested : tie.After-begun-slot Inv-loop μ-loop Inv-loop2 μ-loop2 → tie.After-admit Inv-loop μ-loop Inv-loop2 μ-loop2
 tested c = c .before .before .before
@@ -127,20 +125,14 @@ loop-holds c = (search needs, search needs, rw (count-none))
 add-k : tie.Need-add-k Inv-loop μ-loop Inv-loop2 μ-loop2
 add-k c = search needs
 
-mul-x : tie.Need-mul-x Inv-loop μ-loop Inv-loop2 μ-loop2
-mul-x c = search needs
+mul-counted : tie.Need-mul-counted Inv-loop μ-loop Inv-loop2 μ-loop2
+mul-counted c = search needs
 
-element-copy-out-x : tie.Need-element-copy-out-x Inv-loop μ-loop Inv-loop2 μ-loop2
-element-copy-out-x c = search needs
+element-copy-out-counted : tie.Need-element-copy-out-counted Inv-loop μ-loop Inv-loop2 μ-loop2
+element-copy-out-counted c = search needs
 
-is-idle-requires : tie.Need-is-idle-requires Inv-loop μ-loop Inv-loop2 μ-loop2
-is-idle-requires c κs = search needs
-
-cast-count : tie.Need-cast-count Inv-loop μ-loop Inv-loop2 μ-loop2
-cast-count c = search needs
-
-add-count : tie.Need-add-count Inv-loop μ-loop Inv-loop2 μ-loop2
-add-count c = omega (arith, bit-small (not (c .is-idle .result)))
+counted-requires : tie.Need-counted-requires Inv-loop μ-loop Inv-loop2 μ-loop2
+counted-requires c κs = search needs
 
 add-n : tie.Need-add-n Inv-loop μ-loop Inv-loop2 μ-loop2
 add-n c = search needs
@@ -151,7 +143,8 @@ loop-less c = search needs
 loop-again : tie.Need-loop-again Inv-loop μ-loop Inv-loop2 μ-loop2
 loop-again c =
     let l = c .before .before .before .loop in
-    (search needs, omega (arith, bit-small (not (c .is-idle .result))), count-step _ (l .n) (l .count) (not (c .is-idle .result)) (l .inv .2) (rw (c .is-idle .ensures)))
+    let k = count-next _ (l .n) (l .count) (c .counted .result) (l .inv .2) (c .counted .ensures) in
+    (search needs, omega (arith, k .0), k .1)
 
 window-of-requires : tie.Need-window-of-requires Inv-loop μ-loop Inv-loop2 μ-loop2
 window-of-requires c κs = search needs
@@ -165,18 +158,15 @@ add-next c = search needs
 slot-number-requires : tie.Need-slot-number-requires Inv-loop μ-loop Inv-loop2 μ-loop2
 slot-number-requires c κs = search needs
 
-mul-x-2 : tie.Need-mul-x-2 Inv-loop μ-loop Inv-loop2 μ-loop2
-mul-x-2 c = search needs
+mul-window-at : tie.Need-mul-window-at Inv-loop μ-loop Inv-loop2 μ-loop2
+mul-window-at c = search needs
 
-element-copy-out-x-2 : tie.Need-element-copy-out-x-2 Inv-loop μ-loop Inv-loop2 μ-loop2
-element-copy-out-x-2 c = search needs
-
-is-busy-requires : tie.Need-is-busy-requires Inv-loop μ-loop Inv-loop2 μ-loop2
-is-busy-requires c κs = search needs
+element-copy-out-window-at : tie.Need-element-copy-out-window-at Inv-loop μ-loop Inv-loop2 μ-loop2
+element-copy-out-window-at c = search needs
 
 window-at-requires : tie.Need-window-at-requires Inv-loop μ-loop Inv-loop2 μ-loop2
 window-at-requires c κs =
-    let t = c .before .before .before .before .before in
+    let t = c .before .before .before .before in
     let l = t .loop2 in
     let w = t .before in
     omega (arith, wrote-length (l .inv .1), l .inv .1 .end, windows-most (in-hand w) (w .window-of .result) (l .e), lent (w .before .before .before))
@@ -187,10 +177,9 @@ loop2-less c = search needs
 loop2-again : tie.Need-loop2-again Inv-loop μ-loop Inv-loop2 μ-loop2
 loop2-again c =
     let w = c .before .before in
-    let b = w .before .before in
-    let n = b .before .before in
+    let n = w .before .before .before in
     let l = n .before .before .loop2 in
-    (search needs, upTo-next _ (l .e) (l .inv .1) (same (rw (b .is-busy .ensures, n .slot-number .ensures)) (w .window-at .ensures)))
+    (search needs, upTo-next _ (l .e) (l .inv .1) (same (rw (n .slot-number .ensures)) (w .window-at .ensures)))
 
 queue-requires : tie.Need-queue-requires Inv-loop μ-loop Inv-loop2 μ-loop2
 queue-requires c κs =
@@ -249,11 +238,9 @@ begin-spec =
     element-set-from-y
     loop-holds
     add-k
-    mul-x
-    element-copy-out-x
-    is-idle-requires
-    cast-count
-    add-count
+    mul-counted
+    element-copy-out-counted
+    counted-requires
     add-n
     loop-less
     loop-again
@@ -261,9 +248,8 @@ begin-spec =
     loop2-holds
     add-next
     slot-number-requires
-    mul-x-2
-    element-copy-out-x-2
-    is-busy-requires
+    mul-window-at
+    element-copy-out-window-at
     window-at-requires
     loop2-less
     loop2-again

@@ -1,16 +1,16 @@
 -- `report`: the slots in hand are counted, then the slot and the set are stored where they lie. Assumes nothing.
 use borrow.Author.Needs.{needs}
 use Prim.Native.Nat.{_≤_, _-_}
-use mathlib.Core.Bool.{Bool, true, false, not}
+use mathlib.Core.Bool.{Bool, true, false}
 use mathlib.Core.Path.{_≡_, refl, ap, _∙_}
 use native.Mathlib.Omega.{arith}
 use lib.ListN.{length}
 use Rattle.ops.specs.WroteLaws.{_▹_, none, same}
 use Rattle.state_slots.specs.Slots.{slotNumber}
 use Rattle.state_slots.specs.SlotsLaws.{no-slot}
-use Rattle.base.specs.BitsLaws.{bit-small}
-use Rattle.base.specs.EachLaws.{length-mapped, count-none, count-step}
+use Rattle.base.specs.EachLaws.{length-mapped, count-none}
 use Rattle.transfer_window.specs.Window.{inHandCount, windowOf}
+use Rattle.transfer_window.specs.WindowLaws.{count-next}
 use Rattle.state.specs.Fresh.{slotAt}
 use Rattle.transfer_report.specs.Report.{reportState, reportOps, slotsCounted}
 use Rattle.transfer_step.specs.Step.{reportStep}
@@ -41,20 +41,14 @@ loop-holds c = (search needs, few c, search needs, rw (count-none))
 add-k : tie.Need-add-k Inv-loop μ-loop
 add-k c = search needs
 
-mul-x : tie.Need-mul-x Inv-loop μ-loop
-mul-x c = search needs
+mul-counted : tie.Need-mul-counted Inv-loop μ-loop
+mul-counted c = search needs
 
-element-copy-out-x : tie.Need-element-copy-out-x Inv-loop μ-loop
-element-copy-out-x c = search needs
+element-copy-out-counted : tie.Need-element-copy-out-counted Inv-loop μ-loop
+element-copy-out-counted c = search needs
 
-is-idle-requires : tie.Need-is-idle-requires Inv-loop μ-loop
-is-idle-requires c κs = search needs
-
-cast-count : tie.Need-cast-count Inv-loop μ-loop
-cast-count c = search needs
-
-add-count : tie.Need-add-count Inv-loop μ-loop
-add-count c = omega (arith, bit-small (not (c .is-idle .result)))
+counted-requires : tie.Need-counted-requires Inv-loop μ-loop
+counted-requires c κs = search needs
 
 add-n : tie.Need-add-n Inv-loop μ-loop
 add-n c = search needs
@@ -65,7 +59,8 @@ loop-less c = search needs
 loop-again : tie.Need-loop-again Inv-loop μ-loop
 loop-again c =
     let l = c .before .before .before .loop in
-    (search needs, l .inv .1, omega (arith, bit-small (not (c .is-idle .result))), count-step _ (l .n) (l .count) (not (c .is-idle .result)) (l .inv .3) (rw (c .is-idle .ensures)))
+    let k = count-next _ (l .n) (l .count) (c .counted .result) (l .inv .3) (c .counted .ensures) in
+    (search needs, l .inv .1, omega (arith, k .0), k .1)
 
 window-of-requires : tie.Need-window-of-requires Inv-loop μ-loop
 window-of-requires c κs = search needs
@@ -139,11 +134,9 @@ report-spec =
     slots-counted-requires
     loop-holds
     add-k
-    mul-x
-    element-copy-out-x
-    is-idle-requires
-    cast-count
-    add-count
+    mul-counted
+    element-copy-out-counted
+    counted-requires
     add-n
     loop-less
     loop-again

@@ -1,0 +1,2 @@
+pub mod PowerOff
+pub mod PowerOffLaws

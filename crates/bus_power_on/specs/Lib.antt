@@ -1,0 +1,2 @@
+pub mod PowerOn
+pub mod PowerOnLaws
