@@ -31,6 +31,14 @@ pub fn busy() {
     tool_cells::text(b"answer\tbusy\t0\t0\t0\n");
 }
 
+// A send or receive that went on to its next piece.
+pub fn more(wakes: Wakes) {
+    tool_cells::text(b"answer\tmore\t0");
+    tool_cells::flag(wakes.bus);
+    tool_cells::number(wakes.slots as u32);
+    tool_cells::text(b"\n");
+}
+
 // An allocation that is refused: the Rust has one error for its five numbers.
 pub fn not_allocated() {
     tool_cells::text(b"answer\trefused\t0\t0\t0\n");

@@ -16,6 +16,7 @@ pub fn call(list: &mut [u32; 640], world: World, line: &[u8]) -> World {
         Word::Begin => tool_calls_begin::begin(list, world, line),
         Word::Take | Word::Abandon => tool_calls_finish::call(list, world, word, line),
         Word::Report => tool_calls_report::report(list, world, line),
+        Word::Move | Word::Next => tool_calls_moves::call(list, world, word, line),
         Word::DataOut | Word::DataIn | Word::Accept | Word::AcceptAddress | Word::Reject => {
             tool_calls_stage::call(list, world, word, line)
         }

@@ -5,7 +5,7 @@ use mathlib.Core.List.{List, [], _∷_, map}
 use mathlib.Core.Path.{_≡_, refl}
 use Rattle.tool_lines.specs.Line.{fields, decimal, numberb}
 use Rattle.tool_words.specs.declared.Word.{Word}
-use Rattle.tool_words.specs.declared.Word.the-variants.{Unfit, Driver, Allocate, Start, On, Off, Enable, Stall, Stalled, Enabled, Raise, Poll, Reset, Begin, Take, Abandon, Report, Setup, DataOut, TakeOut, DataIn, Accept, AcceptAddress, TakeIn, Reject, Generation, Show}
+use Rattle.tool_words.specs.declared.Word.the-variants.{Unfit, Driver, Allocate, Start, On, Off, Enable, Stall, Stalled, Enabled, Raise, Poll, Reset, Begin, Take, Abandon, Report, Move, Next, Setup, DataOut, TakeOut, DataIn, Accept, AcceptAddress, TakeIn, Reject, Generation, Show}
 use Rattle.tool_words.specs.Words.{bytes, meaningOf}
 use Rattle.tool_scripts.specs.Script.{numberAt, numbersFit, readCall}
 
@@ -36,6 +36,8 @@ examples =
     ∷ "take\t1\t2" says Take
     ∷ "abandon\t1\t2" says Abandon
     ∷ "report\t1\t2\t255\t65535" says Report
+    ∷ "move\t1\t2\t0\t537001984\t1025\t1\t3" says Move
+    ∷ "next\t1\t2\t0\t537001984\t1025\t1\t3\t1024" says Next
     ∷ "setup" says Setup
     ∷ "data_out\t7\t537001984\t64" says DataOut
     ∷ "take_out\t7\t537001984\t64\t3" says TakeOut
@@ -53,6 +55,7 @@ examples =
     -- one number more
     ∷ "off\t0" says Unfit
     ∷ "stall\t1\t2\t1\t0" says Unfit
+    ∷ "move\t1\t2\t0\t537001984\t1025\t1\t3\t1024" says Unfit
     ∷ "setup\t0" says Unfit
     ∷ "accept_address\t7\t127\t0" says Unfit
     ∷ "allocate\t1\t1\t1\t2\t3\t1024\t4\t3\t0\t2\t0" says Unfit

@@ -8,7 +8,7 @@ use mathlib.Core.List.{List, [], _∷_, _++_}
 use Rattle.tool_lines.specs.Line.{sameb}
 use Rattle.tool_words.specs.declared.Word.{Word}
 use Rattle.tool_words.specs.declared.Meant.{Meant}
-use Rattle.tool_words.specs.declared.Word.the-variants.{Unfit, Driver, Allocate, Start, On, Off, Enable, Stall, Stalled, Enabled, Raise, Poll, Reset, Begin, Take, Abandon, Report, Setup, DataOut, TakeOut, DataIn, Accept, AcceptAddress, TakeIn, Reject, Generation, Interrupt, LinkFlags, LinkStatus, PortCapability, MessageWord, TransferStatus, SetupBytes, Ep0Length, Ep0Sequence, ChainPackets, LastLength, Show}
+use Rattle.tool_words.specs.declared.Word.the-variants.{Unfit, Driver, Allocate, Start, On, Off, Enable, Stall, Stalled, Enabled, Raise, Poll, Reset, Begin, Take, Abandon, Report, Move, Next, Setup, DataOut, TakeOut, DataIn, Accept, AcceptAddress, TakeIn, Reject, Generation, Interrupt, LinkFlags, LinkStatus, PortCapability, MessageWord, TransferStatus, SetupBytes, Ep0Length, Ep0Sequence, ChainPackets, LastLength, Show}
 
 -- a text's bytes: each character here is ASCII
 abbrev pub bytes : String → List ℕ
@@ -51,13 +51,15 @@ busRows =
     ∷ "reset" means Reset taking 0
     ∷ []
 
--- transfers
+-- transfers, and sends and receives
 abbrev pub transferRows : List Row
 transferRows =
     "begin" means Begin taking 5
     ∷ "take" means Take taking 2
     ∷ "abandon" means Abandon taking 2
     ∷ "report" means Report taking 4
+    ∷ "move" means Move taking 7
+    ∷ "next" means Next taking 8
     ∷ []
 
 -- endpoint 0

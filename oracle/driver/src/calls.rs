@@ -134,9 +134,15 @@ impl Calls {
         probe::device::control()
     }
 
-    /// Whether an endpoint was allocated there.
-    pub fn holds(&self, slot: usize) -> bool {
-        self.pipes[slot].is_some()
+    /// The packet size of an endpoint that was allocated, and its own buffer's address and length.
+    pub fn own(&self, slot: usize) -> Option<(usize, usize, usize)> {
+        self.pipes[slot].map(|(pipe, size)| {
+            let (address, length) = match pipe {
+                Pipe::In(endpoint) => probe::endpoint::own(unsafe { &*endpoint }),
+                Pipe::Out(endpoint) => probe::endpoint::own(unsafe { &*endpoint }),
+            };
+            (size as usize, address, length)
+        })
     }
 
     pub fn ready(&self, slot: usize) -> bool {

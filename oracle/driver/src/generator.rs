@@ -1,5 +1,5 @@
 //! Random lines of the listing's input, and random scripts, from a seed, with the edges favoured.
-use crate::calls::Calls;
+use crate::calls::{Asked, Calls};
 use crate::words::{self, WORDS};
 use crate::{ram, readings};
 
@@ -177,6 +177,14 @@ fn unfit(random: &mut Random, parts: Parts) -> Vec<u8> {
         }
         10 => unread(random, &[b"\xff", b"1\x80", b"\xc2\xb2", b"\xe2\x82\x81"]),
         11 => [&b"\xc3\xa9"[..], fit.as_bytes()].concat(),
+        12 if parts.has(Parts::MOVES) && random.one_in(2) => {
+            let (word, count) = [("move", 7), ("next", 8)][random.below(2)];
+            let mut numbers = vec![1, 1, 0, ram::START, 0, 0, 1, 0];
+            numbers.truncate(count);
+            let most = words::LENT as usize;
+            numbers[4] = random.one_of(&[most + 1, most + 2, 2 * most, 1 << 31, u32::MAX as usize]);
+            joined(word, &numbers).into()
+        }
         12 => {
             let most = [1, 1, 1, 15, 3, 65535, 255, 255, 65535, 255];
             let mut numbers = most.map(|most| random.below(most + 1));
@@ -269,7 +277,9 @@ pub fn calls(random: &mut Random, count: usize, parts: Parts) -> Vec<Vec<u8>> {
 fn unstarted(random: &mut Random, script: &mut Script) {
     for _ in 0..random.below(4) {
         let (incoming, endpoint) = (random.below(2), 1 + random.below(8));
-        script.push(match random.below(8) {
+        script.push(match random.below(10) {
+            8 => joined("move", &[incoming, endpoint, 0, ram::FIRST, random.below(3), random.below(2), 7]),
+            9 => joined("next", &[incoming, endpoint, 0, ram::FIRST, random.below(3), random.below(2), 7, 0]),
             // Later the Rust has no bus to ask.
             0 | 1 if script.calls.control().0 == 0 => joined("on", &[random.below(18)]),
             2 => joined("begin", &[incoming, endpoint, place(random, 64), 64, 0]),
@@ -389,6 +399,10 @@ fn conversation(random: &mut Random, asked: &[usize], sizes: &[usize; 16], scrip
                     "enable\t1\t1\t0".into(),
                     "stall\t0\t1\t1".into(),
                     "report\t0\t1\t1\t1".into(),
+                    format!("move\t1\t1\t0\t{}\t8\t0\t1", ram::FIRST),
+                    format!("move\t0\t1\t0\t{}\t8\t0\t1", ram::FIRST),
+                    format!("next\t1\t1\t0\t{}\t8\t0\t1\t0", ram::FIRST),
+                    format!("next\t0\t8\t0\t{}\t8\t0\t1\t0", ram::FIRST),
                     format!("accept\t{generation}"),
                     format!("reject\t{generation}"),
                     format!("take_in\t{generation}"),
@@ -501,6 +515,7 @@ fn lent(random: &mut Random, length: usize, memory: (usize, usize)) -> usize {
         // What is left of it may lie in the RAM, and aligned.
         2 if random.one_in(2) => (ram::START - random.below(length + 1)) & !3,
         2 => ram::START - random.below(length + 1),
+        3 if random.one_in(2) => (ram::END - random.below(length + 1)) & !3,
         3 => ram::END - random.below(length + 1),
         4 => place(random, length + 3) + 1 + random.below(3),
         _ => place(random, length),
@@ -576,46 +591,141 @@ fn control(random: &mut Random, script: &mut Script) {
     script.push(line);
 }
 
+/// A set flag is any number but 0.
+fn set(random: &mut Random, flag: bool) -> usize {
+    match (flag, random.one_in(20)) {
+        (false, _) => 0,
+        (true, false) => 1,
+        (true, true) => random.one_of(&[2, 3, 255, 256, 1 << 31, u32::MAX as usize]),
+    }
+}
+
 /// A send or receive, or some of its next pieces.
 fn moving(random: &mut Random, incoming: usize, endpoint: usize, size: usize, script: &mut Script) {
+    if !(1..8).contains(&endpoint) {
+        stray(random, incoming, endpoint, script);
+        return;
+    }
     let slot = 2 * endpoint + incoming;
-    let in_hand = |script: &Script| script.calls.in_hand(slot).is_some_and(|hand| hand.0.is_some());
-    if !in_hand(script) {
+    let by_pieces = script.calls.in_hand(slot).is_some_and(|hand| hand.0.is_some());
+    // Now and then another one while one is in hand.
+    if !by_pieces || random.one_in(12) {
         begin_moving(random, incoming, endpoint, size, script);
         if random.one_in(3) {
             return;
         }
     }
+    if script.calls.in_hand(slot).is_none() && random.one_in(6) {
+        stray(random, incoming, endpoint, script);
+    }
+    let size = script.calls.own(slot).map_or(size, |own| own.0);
+    let full = random.one_in(2);
     for _ in 0..1 + random.below(6) {
         let Some((Some(asked), position)) = script.calls.in_hand(slot) else {
             return;
         };
         if script.calls.powered() && !random.one_in(6) {
-            let last = if random.one_in(8) { random.below(size + 1) } else { size };
-            script.push(joined("report", &[incoming, endpoint, random.one_of(&[0, 1, 2, 255, 255]), last]));
+            let last = match random.below(8) {
+                _ if full => size,
+                0 => random.below(size + 1),
+                // Just what is left, so that a short packet fits, or one byte more.
+                1 => ((asked.length - position.min(asked.length)) as usize % size + random.below(2)).min(size),
+                _ => size,
+            };
+            let packets = if full { 255 } else { random.one_of(&[0, 1, 2, 255, 255]) };
+            script.push(joined("report", &[incoming, endpoint, packets, last]));
         }
-        let numbers = [asked.single.into(), asked.address as usize, asked.length as usize, asked.flag.into()];
-        let place = [random.below(256), position as usize];
-        script.push(joined("next", &[&[incoming, endpoint], &numbers[..], &place[..]].concat()));
+        go_on(random, incoming, endpoint, (asked, position), script);
+    }
+}
+
+/// What is in hand goes on; the direction and the flags are said in some way.
+fn go_on(random: &mut Random, incoming: usize, endpoint: usize, hand: (Asked, u32), script: &mut Script) {
+    let (asked, position) = hand;
+    let direction = set(random, incoming == 1);
+    let single = set(random, asked.single);
+    let flag = set(random, asked.flag);
+    let place = [asked.address as usize, asked.length as usize, flag, a_pattern(random), position as usize];
+    script.push(joined("next", &[&[direction, endpoint, single], &place[..]].concat()));
+}
+
+/// A call where there is no such endpoint, or nothing in hand.
+fn stray(random: &mut Random, incoming: usize, endpoint: usize, script: &mut Script) {
+    let length = random.one_of(&[0, 1, 64, 1024, 1025, 65536]);
+    let address = lent(random, length, script.memory);
+    let numbers = [incoming, endpoint, random.below(2), address, length, random.below(2), a_pattern(random)];
+    if (1..8).contains(&endpoint) || random.one_in(2) {
+        script.push(joined("next", &[&numbers[..], &[random.below(length + 1)]].concat()));
+    } else {
+        script.push(joined("move", &numbers));
+    }
+}
+
+/// How many bytes are moved: about whole packets, or whole own buffers, or a few of them and some
+/// packets.
+fn a_length(random: &mut Random, single: bool, size: usize, own: usize) -> usize {
+    let packets = random.one_of(&[0, 1, 1, 2, 3, 16, 17, 33]);
+    let whole = match random.below(8) {
+        _ if single && !random.one_in(6) => packets.min(1) * size,
+        0..=2 => packets * size,
+        3..=5 => random.below(4) * own,
+        6 => random.below(3) * own + packets.min(3) * size,
+        _ => random.below(12 * size),
+    };
+    match random.below(8) {
+        0 => whole.saturating_sub(1),
+        1 => whole + 1,
+        2 => whole + random.below(size + 1),
+        3 => whole.saturating_sub(random.below(size + 1)),
+        _ => whole,
+    }
+}
+
+/// Where the bytes of a send or receive lie. Those whose pieces come to the RAM's start, or whose
+/// end is about the RAM's, are favoured.
+fn moved_at(random: &mut Random, length: usize, own: usize, memory: (usize, usize)) -> usize {
+    let near = [0, 1, 2, 3, 4, 8];
+    let address = match random.below(16) {
+        // A whole number of own buffers before the RAM, or nearly.
+        0 => ram::START + random.one_of(&near) - own * random.below(4) - 4 * random.below(2),
+        1 => ram::START + 4 - random.one_of(&near),
+        2 => ram::END - length - random.one_of(&near),
+        3 => ram::END - length + random.one_of(&near),
+        4 => (ram::END - length + 4) & !3,
+        5 => ram::END - random.one_of(&near),
+        _ => return lent(random, length, memory),
+    };
+    let apart = address + length <= memory.0 || memory.0 + memory.1 <= address;
+    if apart {
+        address
+    } else {
+        lent(random, length, memory)
     }
 }
 
 fn begin_moving(random: &mut Random, incoming: usize, endpoint: usize, size: usize, script: &mut Script) {
     let slot = 2 * endpoint + incoming;
-    let pattern = random.below(256);
-    let single = random.below(2);
-    if !script.calls.holds(slot) && single == 1 && incoming == 1 {
+    let single = random.one_in(2);
+    let held = script.calls.own(slot);
+    if held.is_none() && single && incoming == 1 {
         return;
     }
-    let packets = random.one_of(&[0, 1, 1, 2, 3, 16, 17, 33]);
-    let packets = if single == 1 && !random.one_in(6) { packets.min(1) } else { packets };
-    let length = match random.below(4) {
-        0 => (packets * size).saturating_sub(1),
-        1 => packets * size + random.below(size + 1),
-        _ => packets * size,
-    };
-    let address = lent(random, length, script.memory);
-    script.push(joined("move", &[incoming, endpoint, single, address, length, random.below(2), pattern]));
+    // Mostly on what is fit and free.
+    if held.is_some() && script.calls.powered() && !random.one_in(4) {
+        if !script.calls.ready(slot) {
+            script.push(joined("stall", &[incoming, endpoint, 0]));
+            script.push(joined("enable", &[incoming, endpoint, 1]));
+        } else if script.calls.in_hand(slot).is_some() {
+            script.push(joined("abandon", &[incoming, endpoint]));
+        }
+    }
+    let (size, _, own) = held.unwrap_or((size, 0, size));
+    let length = a_length(random, single, size, own);
+    let address = moved_at(random, length, own, script.memory);
+    let wants = random.one_in(2);
+    let (direction, single) = (set(random, incoming == 1), set(random, single));
+    let flag = set(random, wants);
+    script.push(joined("move", &[direction, endpoint, single, address, length, flag, a_pattern(random)]));
 }
 
 /// An allocation that is right but for one thing, while there is room.
@@ -795,8 +905,15 @@ fn life(random: &mut Random, count: usize, script: &mut Script) {
                     }
                     continue;
                 }
-                3..=5 if data && parts.has(Parts::MOVES) => {
-                    moving(random, incoming, endpoint, size, script);
+                3..=5 if parts.has(Parts::MOVES) => {
+                    // Mostly where there is an endpoint.
+                    let held: Vec<usize> = (2..16).filter(|slot| script.calls.own(*slot).is_some()).collect();
+                    if held.is_empty() || random.one_in(6) {
+                        moving(random, incoming, endpoint, size, script);
+                    } else {
+                        let slot = random.one_of(&held);
+                        moving(random, slot % 2, slot / 2, sizes[slot].max(1), script);
+                    }
                     continue;
                 }
                 7 if parts.has(Parts::WAKEUP) && random.one_in(6) => {

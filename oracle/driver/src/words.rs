@@ -2,6 +2,8 @@
 use crate::line::number;
 
 const ANY: u32 = u32::MAX;
+/// As many bytes as a send or receive is lent at most.
+pub const LENT: u32 = 65536;
 
 /// Each word with its numbers: for each the largest that can be read.
 pub const WORDS: [(&str, &[u32]); 40] = [
@@ -22,8 +24,8 @@ pub const WORDS: [(&str, &[u32]); 40] = [
     ("take", &[ANY; 2]),
     ("abandon", &[ANY; 2]),
     ("report", &[ANY; 4]),
-    ("move", &[ANY; 7]),
-    ("next", &[ANY; 8]),
+    ("move", &[ANY, ANY, ANY, ANY, LENT, ANY, ANY]),
+    ("next", &[ANY, ANY, ANY, ANY, LENT, ANY, ANY, ANY]),
     ("setup", &[]),
     ("data_out", &[ANY; 3]),
     ("take_out", &[ANY; 4]),
