@@ -101,7 +101,7 @@ fn allocate_check(driver: Driver, incoming: bool, request: EndpointRequest) -> C
     ensures { λ r. ⌜ r ≡ allocateCheck driver incoming request ⌝ }
 {
     let ep_type = request.ep_type;
-    let sound = state_sound::driver_sound(driver);
+    let sound = driver_sound::driver_sound(driver);
     let sized = packet_size_valid(ep_type, request.max_packet_size, request.interval_ms);
     let burst = burst_valid(request.max_burst, request.max_streams, request.mult);
     let directed = direction_valid(request.requested, request.incoming, incoming);

@@ -76,7 +76,7 @@ pub fn start(
 {
     let mut s = state;
     let state_good = state_sound::sound(s, events);
-    let driver_good = state_sound::driver_sound(driver);
+    let driver_good = driver_sound::driver_sound(driver);
     let awaited = s.awaited;
     let check = start_check(state_good & driver_good, awaited, control_max_packet_size);
     let wakes = state_slots::waking::no_wakes();

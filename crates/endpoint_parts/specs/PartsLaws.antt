@@ -60,6 +60,6 @@ put-held l p lent at start end s e fits q =
     (by-order at (length l)
     (λ h. let here : start ≡ at = omega arith in rw (here, drop-drop (length p) at l))
     (λ h.
-      let none : length p ≡ 0 = omega arith in
-      let end : start ≡ length l = omega arith in
-      rw (end, drop-drop (length p) (length l) l, drop-of-length-le l {i = length l + length p} (omega arith), drop-of-length-le l {i = at + length p} (omega arith), take-length l, take-all at l (omega arith))))
+    let none : length p ≡ 0 = omega arith in
+    let end : start ≡ length l = omega arith in
+    rw (end, drop-drop (length p) (length l) l, drop-of-length-le l {i = length l + length p} (omega arith), drop-of-length-le l {i = at + length p} (omega arith), take-length l, take-all at l (omega arith))))

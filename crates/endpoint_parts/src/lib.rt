@@ -23,13 +23,7 @@ pub fn part<'a>(bytes: &'a [u8], from: usize, len: usize) -> &'a [u8]
 }
 
 // What a transfer uses: of the caller's bytes the part from `at` on, or the start of the endpoint's own buffer.
-pub fn piece<'a>(
-    bytes: &'a [u8],
-    own: &'a [u8],
-    direct: bool,
-    at: usize,
-    len: usize,
-) -> &'a [u8]
+pub fn piece<'a>(bytes: &'a [u8], own: &'a [u8], direct: bool, at: usize, len: usize) -> &'a [u8]
     ensures { λ r. ⌜ now r ≡ pieceOf direct (now (bytes .entry)) (now (own .entry)) at len ⌝ }
 {
     if direct {

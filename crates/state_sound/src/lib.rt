@@ -2,9 +2,8 @@
 ghost use mathlib.Core.Path.{_≡_};
 ghost use mathlib.Core.Bool.{true};
 ghost use Rattle.state_sound.specs.Clauses.{inRam, aligned, multiple, wholePackets};
-ghost use Rattle.state_sound.specs.Sound.{soundb, driverSoundb, configb, outb, busyClausesb, slotb, awaitedb, ownb, memoryb, allocationsb};
+ghost use Rattle.state_sound.specs.Sound.{soundb, configb, outb, busyClausesb, slotb, awaitedb, ownb};
 use state::Awaited;
-use state::Driver;
 use state::EndpointConfig;
 use state::Events;
 use state::Slot;
@@ -53,7 +52,7 @@ fn whole_packets(size: u32, m: u16, burst: u8) -> bool
 }
 
 // A configuration of slot i.
-fn config_fits(i: usize, config: EndpointConfig) -> bool
+pub fn config_fits(i: usize, config: EndpointConfig) -> bool
     ensures { λ r. ⌜ r ≡ configb i true config ⌝ }
 {
     let number = state_slots::slot_number(config.index, config.incoming);
@@ -97,10 +96,9 @@ fn busy_sound(i: usize, x: Slot) -> bool
 fn slot_sound(powered: bool, i: usize, x: Slot) -> bool
     ensures { λ r. ⌜ r ≡ slotb powered i x ⌝ }
 {
-    let config = x.config;
     let phase = x.phase;
     if x.configured {
-        let fits = config_fits(i, config);
+        let fits = config_fits(i, x.config);
         if !fits {
             return false;
         }
@@ -147,8 +145,7 @@ fn own_sound(state: State, events: Events) -> bool
 {
     let inside = in_ram(state.ep0_address, 512);
     let apart = state_events::events_sound(events);
-    let awaited = state.awaited;
-    let asked = awaited_sound(state.powered, awaited);
+    let asked = awaited_sound(state.powered, state.awaited);
     ((state.ep0_address == 0) | inside)
         & (apart & ((!state.has_address | (state.address <= 127)) & ((state.tx_seq <= 31) & asked)))
 }
@@ -162,53 +159,11 @@ pub fn sound(state: State, events: Events) -> bool
     }
     let mut i: usize = 0;
     while i < 16 {
-        let x = state.endpoints[i];
-        let good = slot_sound(state.powered, i, x);
+        let good = slot_sound(state.powered, i, state.endpoints[i]);
         if !good {
             return false;
         }
         i = i + 1;
     }
     true
-}
-
-// A configuration of slot i, where there is one.
-fn allocation_sound(i: usize, configured: bool, config: EndpointConfig) -> bool
-    ensures { λ r. ⌜ r ≡ configb i configured config ⌝ }
-{
-    if configured {
-        return config_fits(i, config);
-    }
-    true
-}
-
-fn allocations_sound(driver: Driver) -> bool
-    ensures { λ r. ⌜ r ≡ allocationsb driver 16 ⌝ }
-{
-    let mut ok = true;
-    let mut i: usize = 0;
-    while i < 16 {
-        let a = driver.endpoints[i];
-        let config = a.config;
-        let good = allocation_sound(i, a.configured, config);
-        ok = ok & good;
-        i = i + 1;
-    }
-    ok
-}
-
-fn memory_sound(memory: u32, capacity: u32, used: u32) -> bool
-    ensures { λ r. ⌜ r ≡ memoryb memory capacity used ⌝ }
-{
-    let inside = in_ram(memory, capacity);
-    let even = is_aligned(memory);
-    inside & ((512 <= capacity) & (even & ((512 <= used) & (used <= capacity))))
-}
-
-pub fn driver_sound(driver: Driver) -> bool
-    ensures { λ r. ⌜ r ≡ driverSoundb driver ⌝ }
-{
-    let endpoints = allocations_sound(driver);
-    let memory = memory_sound(driver.memory, driver.capacity, driver.used);
-    endpoints & memory
 }

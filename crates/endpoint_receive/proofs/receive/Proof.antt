@@ -44,8 +44,7 @@ returns c =
     let plan = d .receive-plan .ensures in
     let place = p .slot-place .ensures in
     let r = g .begin .ensures in
-    let begun = rw (rw (plan, place) at (r .0), plan, place) at (b .begun-piece .ensures) in
-    (
+    let begun = rw (rw (plan, place) at (r .0), plan, place) at (b .begun-piece .ensures) in (
       begun ∙ o .0,
       (
         rw (plan, place) at (r .1 .0) ∙ o .1 .0,

@@ -53,8 +53,7 @@ returns c =
     let r = t .take .ensures in
     let took = rw (unfit, room, here) at (r .0) in
     let says = rw (took, here) at (c .before .before .received-answer .ensures) ∙ o .0 in
-    let stored = rw (took, here) at (w .store .ensures) in
-    (
+    let stored = rw (took, here) at (w .store .ensures) in (
       says,
       (
         rw (unfit, room, here) at (r .1 .0) ∙ o .1 .0,

@@ -68,8 +68,7 @@ returns-2 c =
     let o = send-begun (length (now (a .ops))) (a .t2) (a .events) (a .index) k (now (a .bytes)) (a .own-address) (length (now (a .own))) (h .hand-over .last .1 .1 .1 .0) (h .hand-over .kept .1 .1 .1 .0) refl (not-false _ (rw (plan, place) at (g .before .before .if1 .left))) in
     let r = g .begin .ensures in
     let answer = rw (plan, place) at (r .0) in
-    let says = rw (answer, plan, place) at (b .begun-piece .ensures) in
-    (
+    let says = rw (answer, plan, place) at (b .begun-piece .ensures) in (
       says ∙ o .0,
       (
         rw (plan, place) at (r .1 .0) ∙ o .1 .0,

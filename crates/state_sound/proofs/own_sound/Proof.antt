@@ -17,7 +17,7 @@ returns : tie.Need-returns
 unfolding ownb awaitedb
 returns c =
     let p = c .before .before .before .before in
-    rw (p .before .before .before .in-ram .ensures, p .before .before .events-sound .ensures, p .awaited-sound .ensures)
+    rw (p .before .before .in-ram .ensures, p .before .events-sound .ensures, p .awaited-sound .ensures)
 
 pub own-sound-spec : {M : Type 1} → statement M
 own-sound-spec =

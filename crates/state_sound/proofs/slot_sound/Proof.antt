@@ -12,7 +12,7 @@ config-fits-requires : tie.Need-config-fits-requires
 config-fits-requires c κs = search needs
 
 abbrev start : tie.Else2 → tie.Start
-start c = c .before .before .before .before
+start c = c .before .before .before
 
 fits : (c : tie.Else2) → configb (start c .args .i) true (start c .args .x .config) ≡ true
 fits c = sym (c .before .config-fits .ensures) ∙ not-false _ (c .if2 .left)

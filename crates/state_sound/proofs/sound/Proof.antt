@@ -27,11 +27,11 @@ loop-holds : tie.Need-loop-holds Inv-loop μ-loop
 unfolding slotsb
 loop-holds c = (search needs, every-none _)
 
-mul-x : tie.Need-mul-x Inv-loop μ-loop
-mul-x c = search needs
+mul-slot-sound : tie.Need-mul-slot-sound Inv-loop μ-loop
+mul-slot-sound c = search needs
 
-element-copy-out-x : tie.Need-element-copy-out-x Inv-loop μ-loop
-element-copy-out-x c = search needs
+element-copy-out-slot-sound : tie.Need-element-copy-out-slot-sound Inv-loop μ-loop
+element-copy-out-slot-sound c = search needs
 
 slot-sound-requires : tie.Need-slot-sound-requires Inv-loop μ-loop
 slot-sound-requires c κs = search needs
@@ -69,8 +69,8 @@ sound-spec =
     own-sound-requires
     returns
     loop-holds
-    mul-x
-    element-copy-out-x
+    mul-slot-sound
+    element-copy-out-slot-sound
     slot-sound-requires
     returns-2
     add-i

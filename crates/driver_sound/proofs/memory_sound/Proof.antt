@@ -1,9 +1,9 @@
 -- `memory_sound`: the five clauses of the memory. Assumes nothing.
 use borrow.Author.Needs.{needs}
 use mathlib.Core.Bool.{and-true}
 use Rattle.state_sound.specs.Sound.{memoryb}
-use Rattle.state_sound.proofs.memory_sound.Statement.{statement}
-use Rattle.state_sound.proofs.memory_sound.Tie as tie
+use Rattle.driver_sound.proofs.memory_sound.Statement.{statement}
+use Rattle.driver_sound.proofs.memory_sound.Tie as tie
 
 in-ram-requires : tie.Need-in-ram-requires
 in-ram-requires c κs = search needs

@@ -1,8 +1,8 @@
 -- `allocation_sound`: held to the clauses where there is one. Assumes nothing.
 use Rattle.state_sound.specs.SoundLaws.{config-none}
 use borrow.Author.Needs.{needs}
-use Rattle.state_sound.proofs.allocation_sound.Statement.{statement}
-use Rattle.state_sound.proofs.allocation_sound.Tie as tie
+use Rattle.driver_sound.proofs.allocation_sound.Statement.{statement}
+use Rattle.driver_sound.proofs.allocation_sound.Tie as tie
 
 config-fits-requires : tie.Need-config-fits-requires
 config-fits-requires c κs = search needs

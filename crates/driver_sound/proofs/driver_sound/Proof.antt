@@ -1,8 +1,8 @@
 -- `driver_sound`: the allocations and the memory. Assumes nothing.
 use borrow.Author.Needs.{needs}
 use Rattle.state_sound.specs.SoundLaws.{driver-parts}
-use Rattle.state_sound.proofs.driver_sound.Statement.{statement}
-use Rattle.state_sound.proofs.driver_sound.Tie as tie
+use Rattle.driver_sound.proofs.driver_sound.Statement.{statement}
+use Rattle.driver_sound.proofs.driver_sound.Tie as tie
 
 allocations-sound-requires : tie.Need-allocations-sound-requires
 allocations-sound-requires c κs = search needs

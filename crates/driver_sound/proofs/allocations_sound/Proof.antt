@@ -4,9 +4,9 @@ use native.Mathlib.Omega.{arith}
 use mathlib.Core.Path.{_≡_}
 use Prim.Native.Nat.{_≤_, _-_}
 use Rattle.base.specs.EachLaws.{every-none, every-step}
 use Rattle.state_sound.specs.Sound.{allocationsb}
-use Rattle.state_sound.proofs.allocations_sound.Statement.{statement}
-use Rattle.state_sound.proofs.allocations_sound.Tie as tie
+use Rattle.driver_sound.proofs.allocations_sound.Statement.{statement}
+use Rattle.driver_sound.proofs.allocations_sound.Tie as tie
 
 abbrev Inv-loop : tie.InvT-loop
 Inv-loop driver ok₀ i₀ ok i = (i ≤ 16) × (ok ≡ allocationsb driver i)
