@@ -39,8 +39,7 @@ pub fn receive<'a>(
         position: position,
     };
     let i = state_slots::slot_place(index, false);
-    let slot = state.endpoints[i];
-    let plan = endpoint_plan::receive_plan(slot, asked, own_address, own.len());
+    let plan = endpoint_plan::receive_plan(state.endpoints[i], asked, own_address, own.len());
     let result = transfer_begin::begin(
         ops,
         state,

@@ -41,8 +41,7 @@ pub fn send(
         position: position,
     };
     let i = state_slots::slot_place(index, true);
-    let slot = state.endpoints[i];
-    let plan = endpoint_plan::send_plan(slot, asked, own_address, own.len());
+    let plan = endpoint_plan::send_plan(state.endpoints[i], asked, own_address, own.len());
     if !plan.begins {
         return endpoint_nothing::nothing(ops.len(), state, events, index, plan, bytes.len());
     }

@@ -30,7 +30,7 @@ pub fn answer(ops: &mut [u32], state: State, events: Events, reading: Reading) -
     if let Check::Refused(refusal) = open {
         return interrupt_begin::refused(refusal, state, events);
     }
-    let most = interrupt_hear::slots_heard(state.awaited);
+    let most = interrupt_slots::slots_heard(state.awaited);
     let mut count: u32 = 0;
     let mut n: usize = 0;
     while n < most {
@@ -39,7 +39,7 @@ pub fn answer(ops: &mut [u32], state: State, events: Events, reading: Reading) -
         n = n + 1;
     }
     let window = transfer_window::window_of(count);
-    let i = interrupt_hear::slot_heard(state.awaited, reading);
+    let i = interrupt_slots::slot_heard(state.awaited, reading);
     let setup = state.setup;
     let heard = interrupt_hear::hear(
         ops,

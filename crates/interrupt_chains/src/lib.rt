@@ -1,5 +1,4 @@
-// The readings of a chain, and which reading of the transfers is heard (reference: `transfer_irq` and
-// `data_irq` of device.rs).
+// The readings of a chain (reference: `data_irq` of device.rs).
 ghost use mathlib.Core.Path.{_≡_};
 ghost use mathlib.Core.List.{[]};
 ghost use Prim.Native.Nat.{ℕ, _≤_, _<_};
@@ -8,7 +7,6 @@ ghost use Rattle.ops.specs.Ops.{listNumbers};
 ghost use Rattle.ops.specs.Wrote.{Wrote};
 ghost use Rattle.state.specs.declared.Awaiting.the-variants as awaiting;
 ghost use Rattle.state.specs.declared.Check.the-variants.{Fits};
-ghost use Rattle.state.specs.Awaiting.{awaitingNumber};
 ghost use Rattle.state.specs.Refusals.{firstRefusal};
 ghost use Rattle.interrupt_transfer.specs.declared.Sight.{Sight};
 ghost use Rattle.interrupt_readings.specs.Matched.{readingOwn};
@@ -17,12 +15,11 @@ use interrupt_followers::Turn;
 use interrupt_transfer::Sight;
 use interrupt_transfer::TransferEffect;
 use state::Awaited;
-use state::Awaiting;
 use state::Check;
 use state::Reading;
 use state::Refusal;
 
-fn on_chain_packets(awaited: Awaited, effect: TransferEffect, reading: Reading) -> Turn
+pub fn on_chain_packets(awaited: Awaited, effect: TransferEffect, reading: Reading) -> Turn
     ensures check { λ r. ⌜ r .check ≡ firstRefusal (readingOwn awaiting.ChainPackets reading) ⌝ }
     ensures effect { λ r. ⌜ ((g : Sight) (i : ℕ) → r .effect ≡ piecesTurned g awaited i effect awaiting.ChainPackets reading .effect) ⌝ }
     ensures awaited { λ r. ⌜ ((g : Sight) (i : ℕ) → r .awaited ≡ piecesTurned g awaited i effect awaiting.ChainPackets reading .awaited) ⌝ }
@@ -44,7 +41,7 @@ fn on_chain_packets(awaited: Awaited, effect: TransferEffect, reading: Reading) 
     }
 }
 
-fn on_last_length(
+pub fn on_last_length(
     ops: &mut [u32],
     sight: Sight,
     awaited: Awaited,
@@ -76,53 +73,4 @@ fn on_last_length(
         last,
     );
     interrupt_status::accepted(turn)
-}
-
-// A reading while one of the transfers is awaited.
-pub fn hear_transfer(
-    ops: &mut [u32],
-    sight: Sight,
-    awaited: Awaited,
-    i: usize,
-    effect: TransferEffect,
-    reading: Reading,
-) -> Turn
-    requires room { ⌜ listNumbers ≤ length (now ops) ⌝ }
-    requires transfer { ⌜ 6 < awaitingNumber (awaited .next) ⌝ }
-    ensures check { λ r. ⌜ r .check ≡ firstRefusal (readingOwn (awaited .next) reading) ⌝ }
-    ensures effect { λ r. ⌜ r .effect ≡ piecesTurned sight awaited i effect (awaited .next) reading .effect ⌝ }
-    ensures awaited { λ r. ⌜ r .awaited ≡ piecesTurned sight awaited i effect (awaited .next) reading .awaited ⌝ }
-    ensures list { λ r. ⌜ Wrote (now (ops .entry)) 0 (piecesTurned sight awaited i effect (awaited .next) reading .ops) (r .end) (now (ops .exit)) ⌝ }
-{
-    let next = awaited.next;
-    match next {
-        Awaiting::TransferStatus => interrupt_status::on_transfer_status(
-            ops,
-            sight,
-            awaited,
-            i,
-            effect,
-            reading,
-        ),
-        Awaiting::SetupBytes => interrupt_followers::on_setup_bytes(awaited, effect, reading),
-        Awaiting::Ep0Length => interrupt_followers::on_ep0_length(
-            ops,
-            sight,
-            awaited,
-            i,
-            effect,
-            reading,
-        ),
-        Awaiting::Ep0Sequence => interrupt_followers::on_ep0_sequence(
-            ops,
-            sight,
-            awaited,
-            i,
-            effect,
-            reading,
-        ),
-        Awaiting::ChainPackets => on_chain_packets(awaited, effect, reading),
-        Awaiting::LastLength => on_last_length(ops, sight, awaited, i, effect, reading),
-        _ => interrupt_followers::refused(Refusal::OutOfTurn, awaited, effect),
-    }
 }

@@ -1,21 +1,19 @@
 // A reading, whichever is awaited, by what it looks at and changes: the call that has the state takes these pieces out of it
 // and stores them back.
 ghost use mathlib.Core.Path.{_≡_};
-ghost use Prim.Native.Nat.{_≤_, _<_};
+ghost use Prim.Native.Nat.{_≤_};
 ghost use lib.ListN.{length};
 ghost use Rattle.ops.specs.Ops.{listNumbers};
 ghost use Rattle.ops.specs.Wrote.{Wrote};
 ghost use Rattle.state.specs.Refusals.{firstRefusal};
 ghost use Rattle.interrupt_readings.specs.Matched.{readingOwn};
-ghost use Rattle.interrupt_transfer.specs.Pieces.{statusSlot};
-ghost use Rattle.interrupt_hear.specs.Hear.{slotsHeard, heardSlot, heardBy};
+ghost use Rattle.interrupt_hear.specs.Hear.{heardBy};
 use interrupt_link::LinkEffect;
 use interrupt_transfer::Sight;
 use interrupt_transfer::TransferEffect;
 use state::Awaited;
 use state::Check;
 use state::Reading;
-use state::TransferStatus;
 
 // What a reading comes to.
 pub struct Heard {
@@ -24,39 +22,6 @@ pub struct Heard {
     pub transfer: TransferEffect,
     pub awaited: Awaited,
     pub end: usize,
-}
-
-// How many slots are counted for the window, which only the end of an OUT chain asks for.
-pub fn slots_heard(awaited: Awaited) -> usize
-    ensures few { λ r. ⌜ r ≤ 14 ⌝ }
-    ensures value { λ r. ⌜ r ≡ slotsHeard (awaited .next) ⌝ }
-{
-    let next = awaited.next;
-    let place = state::readings::awaiting_number(next);
-    if place == 12 { 14 } else { 0 }
-}
-
-fn status_slot(status: TransferStatus) -> usize
-    ensures small { λ r. ⌜ r < 16 ⌝ }
-    ensures value { λ r. ⌜ r ≡ statusSlot status ⌝ }
-{
-    if status.udif_status {
-        return 1;
-    }
-    2 * (status.ep_id % 8) as usize + 1
-}
-
-// The slot that a reading is about. Those that are about none leave slot 1 as it is.
-pub fn slot_heard(awaited: Awaited, reading: Reading) -> usize
-    ensures small { λ r. ⌜ r < 16 ⌝ }
-    ensures value { λ r. ⌜ r ≡ heardSlot (awaited .endpoint) reading ⌝ }
-{
-    match reading {
-        Reading::TransferStatus(status) => status_slot(status),
-        Reading::Ep0Length(length) => 0,
-        Reading::LastLength(last) => state_slots::slot_place(awaited.endpoint, false),
-        _ => 1,
-    }
 }
 
 // The first six readings are the link's; behind them come those of the transfers.
@@ -81,7 +46,7 @@ pub fn hear(
     let next = awaited.next;
     let place = state::readings::awaiting_number(next);
     if place <= 6 {
-        let turn = interrupt_messages::hear_link(ops, ep0, revision, awaited, link, reading);
+        let turn = interrupt_hear_link::hear_link(ops, ep0, revision, awaited, link, reading);
         let check = turn.check;
         let effect = turn.effect;
         let asks = turn.awaited;
@@ -93,7 +58,7 @@ pub fn hear(
             end: turn.end,
         };
     }
-    let turn = interrupt_chains::hear_transfer(ops, sight, awaited, i, transfer, reading);
+    let turn = interrupt_hear_transfer::hear_transfer(ops, sight, awaited, i, transfer, reading);
     let check = turn.check;
     let effect = turn.effect;
     let asks = turn.awaited;

@@ -1,11 +1,10 @@
-// The later readings of the link (terminations, a message, a warm reset), and which of its readings is heard.
+// The later readings of the link: terminations, a message, a warm reset.
 ghost use mathlib.Core.Path.{_≡_};
 ghost use Prim.Native.Nat.{ℕ, _≤_};
 ghost use lib.ListN.{length};
 ghost use Rattle.ops.specs.Ops.{listNumbers};
 ghost use Rattle.ops.specs.Wrote.{Wrote};
 ghost use Rattle.state.specs.declared.Awaiting.the-variants as awaiting;
-ghost use Rattle.state.specs.Awaiting.{awaitingNumber};
 ghost use Rattle.state.specs.Refusals.{firstRefusal};
 ghost use Rattle.interrupt_readings.specs.Matched.{readingOwn};
 ghost use Rattle.interrupt_readings.specs.Heard.{linkTurned};
@@ -16,7 +15,7 @@ use state::Awaiting;
 use state::Check;
 use state::Reading;
 
-fn on_term_status(
+pub fn on_term_status(
     ops: &mut [u32],
     awaited: Awaited,
     effect: LinkEffect,
@@ -44,7 +43,7 @@ fn on_term_status(
     }
 }
 
-fn on_message_word(
+pub fn on_message_word(
     ops: &mut [u32],
     revision: u8,
     awaited: Awaited,
@@ -73,7 +72,7 @@ fn on_message_word(
     }
 }
 
-fn on_warm_status(
+pub fn on_warm_status(
     ops: &mut [u32],
     ep0: u32,
     awaited: Awaited,
@@ -97,47 +96,5 @@ fn on_warm_status(
         effect: after,
         awaited: asks,
         end: acted.end,
-    }
-}
-
-// A reading while one of the link's, or none, is awaited.
-pub fn hear_link(
-    ops: &mut [u32],
-    ep0: u32,
-    revision: u8,
-    awaited: Awaited,
-    effect: LinkEffect,
-    reading: Reading,
-) -> LinkTurn
-    requires room { ⌜ listNumbers ≤ length (now ops) ⌝ }
-    requires link { ⌜ awaitingNumber (awaited .next) ≤ 6 ⌝ }
-    ensures check { λ r. ⌜ r .check ≡ firstRefusal (readingOwn (awaited .next) reading) ⌝ }
-    ensures effect { λ r. ⌜ r .effect ≡ linkTurned ep0 revision awaited effect (awaited .next) reading .effect ⌝ }
-    ensures awaited { λ r. ⌜ r .awaited ≡ linkTurned ep0 revision awaited effect (awaited .next) reading .awaited ⌝ }
-    ensures list { λ r. ⌜ Wrote (now (ops .entry)) 0 (linkTurned ep0 revision awaited effect (awaited .next) reading .ops) (r .end) (now (ops .exit)) ⌝ }
-{
-    let next = awaited.next;
-    match next {
-        Awaiting::Nothing => interrupt_readings::out_of_turn(awaited, effect),
-        Awaiting::LinkFlags => interrupt_readings::on_link_flags(awaited, effect, reading),
-        Awaiting::LinkStatus => interrupt_readings::on_link_status(
-            ops,
-            ep0,
-            revision,
-            awaited,
-            effect,
-            reading,
-        ),
-        Awaiting::PortCapability => interrupt_readings::on_port_capability(
-            ops,
-            ep0,
-            awaited,
-            effect,
-            reading,
-        ),
-        Awaiting::TermPresStatus => on_term_status(ops, awaited, effect, reading),
-        Awaiting::MessageWord => on_message_word(ops, revision, awaited, effect, reading),
-        Awaiting::WarmResetStatus => on_warm_status(ops, ep0, awaited, effect, reading),
-        _ => interrupt_readings::out_of_turn(awaited, effect),
     }
 }

@@ -7,8 +7,7 @@ ghost use Rattle.ops.specs.Wrote.{Wrote};
 ghost use Rattle.state.specs.declared.Awaiting.the-variants as awaiting;
 ghost use Rattle.state.specs.declared.Check.the-variants.{Fits};
 ghost use Rattle.state.specs.Refusals.{firstRefusal};
-ghost use Rattle.interrupt_transfer.specs.Transfers.{chainAsked, ep0Reading};
-ghost use Rattle.interrupt_transfer.specs.Pieces.{endpointPieces, statusPieces};
+ghost use Rattle.interrupt_transfer.specs.Pieces.{statusPieces};
 ghost use Rattle.interrupt_readings.specs.Matched.{readingOwn};
 ghost use Rattle.interrupt_followers.specs.Pieces.{piecesTurned};
 use interrupt_followers::Turn;
@@ -21,83 +20,6 @@ use state::Check;
 use state::Reading;
 use state::Refusal;
 use state::TransferStatus;
-
-fn ep0_reading(incoming: bool) -> Awaiting
-    ensures { λ r. ⌜ r ≡ ep0Reading incoming ⌝ }
-{
-    if incoming {
-        return Awaiting::Ep0Sequence;
-    }
-    Awaiting::Ep0Length
-}
-
-fn ask_chain(awaited: Awaited, index: u8) -> Awaited
-    ensures { λ r. ⌜ r ≡ chainAsked awaited index ⌝ }
-{
-    let flags = awaited.flags;
-    let link_state = awaited.link_state;
-    Awaited {
-        next: Awaiting::ChainPackets,
-        flags: flags,
-        link_state: link_state,
-        endpoint: index,
-        packets: awaited.packets,
-    }
-}
-
-// A transfer of endpoint 0, of a data endpoint, or of one that isn't there.
-fn endpoint_turn(
-    ops: &mut [u32],
-    at: usize,
-    sight: Sight,
-    awaited: Awaited,
-    i: usize,
-    effect: TransferEffect,
-    index: u32,
-    incoming: bool,
-) -> TransferTurn
-    requires { ⌜ at + records 7 ≤ length (now ops) ⌝ }
-    ensures effect { λ r. ⌜ r .effect ≡ endpointPieces sight awaited i effect index incoming .effect ⌝ }
-    ensures awaited { λ r. ⌜ r .awaited ≡ endpointPieces sight awaited i effect index incoming .awaited ⌝ }
-    ensures list { λ r. ⌜ Wrote (now (ops .entry)) at (endpointPieces sight awaited i effect index incoming .ops) (r .end) (now (ops .exit)) ⌝ }
-{
-    if index == 0 {
-        let next = ep0_reading(incoming);
-        let asks = interrupt_asks::ask(awaited, next);
-        return TransferTurn {
-            effect: effect,
-            awaited: asks,
-            end: at,
-        };
-    }
-    if 7 < index {
-        let nothing = state::fresh::nothing_awaited();
-        return TransferTurn {
-            effect: effect,
-            awaited: nothing,
-            end: at,
-        };
-    }
-    if incoming {
-        return interrupt_transfer::report_pieces(
-            ops,
-            at,
-            sight,
-            i,
-            effect,
-            index as u8,
-            true,
-            0,
-            0,
-        );
-    }
-    let asks = ask_chain(awaited, index as u8);
-    TransferTurn {
-        effect: effect,
-        awaited: asks,
-        end: at,
-    }
-}
 
 fn status_turn(
     ops: &mut [u32],
@@ -134,7 +56,7 @@ fn status_turn(
         };
     }
     if status.uif_transfer {
-        return endpoint_turn(
+        return interrupt_endpoint::endpoint_turn(
             ops,
             at,
             sight,

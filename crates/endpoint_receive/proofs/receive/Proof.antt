@@ -14,11 +14,11 @@ use Rattle.endpoint_receive.proofs.receive.Tie as tie
 slot-place-requires : tie.Need-slot-place-requires
 slot-place-requires c κs = search needs
 
-mul-slot : tie.Need-mul-slot
-mul-slot c = search needs
+mul-receive-plan : tie.Need-mul-receive-plan
+mul-receive-plan c = search needs
 
-element-copy-out-slot : tie.Need-element-copy-out-slot
-element-copy-out-slot c = search needs
+element-copy-out-receive-plan : tie.Need-element-copy-out-receive-plan
+element-copy-out-receive-plan c = search needs
 
 receive-plan-requires : tie.Need-receive-plan-requires
 receive-plan-requires c κs = search needs
@@ -57,8 +57,8 @@ receive-spec =
     tie.close
     (tie.spec
     slot-place-requires
-    mul-slot
-    element-copy-out-slot
+    mul-receive-plan
+    element-copy-out-receive-plan
     receive-plan-requires
     begin-requires
     begun-piece-requires

@@ -14,11 +14,11 @@ use Rattle.endpoint_send.proofs.send.Tie as tie
 slot-place-requires : tie.Need-slot-place-requires
 slot-place-requires c κs = search needs
 
-mul-slot : tie.Need-mul-slot
-mul-slot c = search needs
+mul-send-plan : tie.Need-mul-send-plan
+mul-send-plan c = search needs
 
-element-copy-out-slot : tie.Need-element-copy-out-slot
-element-copy-out-slot c = search needs
+element-copy-out-send-plan : tie.Need-element-copy-out-send-plan
+element-copy-out-send-plan c = search needs
 
 send-plan-requires : tie.Need-send-plan-requires
 send-plan-requires c κs = search needs
@@ -87,8 +87,8 @@ send-spec =
     tie.close
     (tie.spec
     slot-place-requires
-    mul-slot
-    element-copy-out-slot
+    mul-send-plan
+    element-copy-out-send-plan
     send-plan-requires
     nothing-requires
     returns

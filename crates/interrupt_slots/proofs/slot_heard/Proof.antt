@@ -1,10 +1,10 @@
 -- By the kind of the reading. Assumes nothing.
 use native.Mathlib.Omega.{arith}
 use mathlib.Core.Path.{sym}
 use Rattle.interrupt_hear.specs.HearLaws.{no-slot-heard}
 use borrow.Author.Needs.{needs}
-use Rattle.interrupt_hear.proofs.slot_heard.Statement.{statement}
-use Rattle.interrupt_hear.proofs.slot_heard.Tie as tie
+use Rattle.interrupt_slots.proofs.slot_heard.Statement.{statement}
+use Rattle.interrupt_slots.proofs.slot_heard.Tie as tie
 
 enum-known-reading : tie.Need-enum-known-reading
 enum-known-reading c = search needs

@@ -3,8 +3,8 @@ use mathlib.Core.Path.{refl}
 use borrow.Author.Tests.{eq-eqb, ne-eqb, le-leb, lt-leb}
 use Rattle.ops.specs.WroteLaws.{none}
 use borrow.Author.Needs.{needs}
-use Rattle.interrupt_status.proofs.endpoint_turn.Statement.{statement}
-use Rattle.interrupt_status.proofs.endpoint_turn.Tie as tie
+use Rattle.interrupt_endpoint.proofs.endpoint_turn.Statement.{statement}
+use Rattle.interrupt_endpoint.proofs.endpoint_turn.Tie as tie
 
 ep0-reading-requires : tie.Need-ep0-reading-requires
 ep0-reading-requires c κs = search needs

@@ -7,8 +7,8 @@ use Rattle.interrupt_readings.specs.HeardLaws.{heard-as}
 use Rattle.state_call.specs.Outcome.{orElse}
 use Rattle.interrupt_readings.specs.Heard.{linkTurned}
 use borrow.Author.Needs.{needs}
-use Rattle.interrupt_messages.proofs.hear_link.Statement.{statement}
-use Rattle.interrupt_messages.proofs.hear_link.Tie as tie
+use Rattle.interrupt_hear_link.proofs.hear_link.Statement.{statement}
+use Rattle.interrupt_hear_link.proofs.hear_link.Tie as tie
 
 enum-told : tie.Need-enum-told
 enum-told c = search needs

@@ -5,8 +5,8 @@ use Rattle.ops.specs.WroteLaws.{none, same}
 use Rattle.interrupt_readings.specs.MatchedLaws.{tag-place, early}
 use Rattle.interrupt_followers.specs.PiecesLaws.{turned-as}
 use borrow.Author.Needs.{needs}
-use Rattle.interrupt_chains.proofs.hear_transfer.Statement.{statement}
-use Rattle.interrupt_chains.proofs.hear_transfer.Tie as tie
+use Rattle.interrupt_hear_transfer.proofs.hear_transfer.Statement.{statement}
+use Rattle.interrupt_hear_transfer.proofs.hear_transfer.Tie as tie
 
 enum-told : tie.Need-enum-told
 enum-told c = search needs

@@ -3,8 +3,8 @@ use native.Mathlib.Omega.{arith}
 use mathlib.Core.Path.{refl, sym, _∙_}
 use borrow.Author.Tests.{eq-eqb, ne-eqb}
 use borrow.Author.Needs.{needs}
-use Rattle.interrupt_hear.proofs.slots_heard.Statement.{statement}
-use Rattle.interrupt_hear.proofs.slots_heard.Tie as tie
+use Rattle.interrupt_slots.proofs.slots_heard.Statement.{statement}
+use Rattle.interrupt_slots.proofs.slots_heard.Tie as tie
 
 awaiting-number-requires : tie.Need-awaiting-number-requires
 awaiting-number-requires c κs = search needs

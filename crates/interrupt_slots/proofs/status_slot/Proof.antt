@@ -2,8 +2,8 @@
 use native.Mathlib.Omega.{arith}
 use mathlib.Core.Path.{refl}
 use borrow.Author.Needs.{needs}
-use Rattle.interrupt_hear.proofs.status_slot.Statement.{statement}
-use Rattle.interrupt_hear.proofs.status_slot.Tie as tie
+use Rattle.interrupt_slots.proofs.status_slot.Statement.{statement}
+use Rattle.interrupt_slots.proofs.status_slot.Tie as tie
 
 returns : tie.Need-returns
 returns c = search needs
