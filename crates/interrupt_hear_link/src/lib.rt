@@ -49,9 +49,26 @@ pub fn hear_link(
             effect,
             reading,
         ),
-        Awaiting::TermPresStatus => interrupt_messages::on_term_status(ops, awaited, effect, reading),
-        Awaiting::MessageWord => interrupt_messages::on_message_word(ops, revision, awaited, effect, reading),
-        Awaiting::WarmResetStatus => interrupt_messages::on_warm_status(ops, ep0, awaited, effect, reading),
+        Awaiting::TermPresStatus => interrupt_messages::on_term_status(
+            ops,
+            awaited,
+            effect,
+            reading,
+        ),
+        Awaiting::MessageWord => interrupt_messages::on_message_word(
+            ops,
+            revision,
+            awaited,
+            effect,
+            reading,
+        ),
+        Awaiting::WarmResetStatus => interrupt_messages::on_warm_status(
+            ops,
+            ep0,
+            awaited,
+            effect,
+            reading,
+        ),
         _ => interrupt_readings::out_of_turn(awaited, effect),
     }
 }

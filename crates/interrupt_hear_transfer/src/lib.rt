@@ -61,7 +61,14 @@ pub fn hear_transfer(
             reading,
         ),
         Awaiting::ChainPackets => interrupt_chains::on_chain_packets(awaited, effect, reading),
-        Awaiting::LastLength => interrupt_chains::on_last_length(ops, sight, awaited, i, effect, reading),
+        Awaiting::LastLength => interrupt_chains::on_last_length(
+            ops,
+            sight,
+            awaited,
+            i,
+            effect,
+            reading,
+        ),
         _ => interrupt_followers::refused(Refusal::OutOfTurn, awaited, effect),
     }
 }
