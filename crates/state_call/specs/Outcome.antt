@@ -13,7 +13,8 @@ use Rattle.state.specs.declared.Check.{Check}
 use Rattle.state.specs.declared.Check.the-variants.{Fits, Refused}
 use Rattle.state_slots.specs.Waking.{noWakes}
 
--- A is the call's own kind of answer; `copied` are the bytes that it stores at the start of what it is lent for bytes
+-- A is the call's own kind of answer; `copied` are the bytes that it stores in what it is lent for bytes: at the start, or,
+-- of a receive, from where the caller stands
 pub record Outcome (A : Type 0) : Type 0 where
   pub answer : A
   pub state : State
