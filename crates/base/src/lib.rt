@@ -1,6 +1,10 @@
 // Arithmetic that the parts of the driver share. Nothing is asked of the arguments.
+#![tactic(auto)]
+
 ghost use Rattle.std.specs.Prelude.{◌≡◌, ◌-◌, min as least, max as greatest};
 ghost use Rattle.base.specs.Ceil.{div_ceil};
+
+pub mod copies;
 
 pub fn min(a: u32, b: u32) -> u32
     ensures { result ≡ least a b }

@@ -1,4 +1,6 @@
 // What an order does on one endpoint (reference: `set_endpoint_stalled` and `endpoint_set_enabled` of device.rs).
+#![tactic(auto)]
+
 ghost use Rattle.state_call.specs.Turn.{admitted_of};
 ghost use Rattle.bus_endpoint.specs.Endpoint.{obeyed_ops, obeyed_at};
 ghost use Rattle.state.specs.Refusals.{first_refusal};
@@ -13,19 +15,19 @@ ghost use Rattle.bus_endpoint.specs.declared.Order.TheVariants.{Stall, Enable};
 use state::{Awaited, Check, EndpointType, Refusal, Slot, Wakes};
 
 // What can be asked of an endpoint: to answer STALL or no longer, to be on or off.
-#[derive(Drop)]
+#[derive(Clone, Copy)]
 pub enum Order {
     Stall(bool),
     Enable(bool),
 }
 
-#[derive(Drop)]
+#[derive(Clone, Copy)]
 pub enum OrderAnswer {
     Refused(Refusal),
     Ordered,
 }
 
-#[derive(Drop)]
+#[derive(Clone, Copy)]
 pub struct Obeyed {
     pub answer: OrderAnswer,
     pub slot: Slot,

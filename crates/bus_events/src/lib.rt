@@ -1,5 +1,7 @@
 // Raising an event and asking for one (reference: `raise` and `poll` of device.rs). The state beside the events says whether
 // the call is due.
+#![tactic(auto)]
+
 ghost use Rattle.std.specs.Prelude.{◌≡◌};
 ghost use Rattle.state.specs.Numbers.{check_number};
 ghost use Rattle.state.specs.Refusals.{first_refusal};
@@ -9,27 +11,27 @@ ghost use Rattle.bus_events.specs.Poll.{poll_answer, poll_call, poll_numbers, po
 use state::{Check, Events, Refusal, State, Wakes};
 use state_events::{Event, Pending};
 
-#[derive(Drop)]
+#[derive(Clone, Copy)]
 pub enum RaiseAnswer {
     Refused(Refusal),
     Raised,
 }
 
-#[derive(Drop)]
+#[derive(Clone, Copy)]
 pub struct RaiseResult {
     pub answer: RaiseAnswer,
     pub events: Events,
     pub wakes: Wakes,
 }
 
-#[derive(Drop)]
+#[derive(Clone, Copy)]
 pub enum PollAnswer {
     Refused(Refusal),
     Nothing,
     Event(Event),
 }
 
-#[derive(Drop)]
+#[derive(Clone, Copy)]
 pub struct PollResult {
     pub answer: PollAnswer,
     pub events: Events,

@@ -1,1 +1,2 @@
 // No code: specs/ has what holds of orders, queries, resets, power and events.
+#![tactic(auto)]

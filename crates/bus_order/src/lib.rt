@@ -1,4 +1,6 @@
 // Orders on endpoints (reference: `Bus` of device.rs).
+#![tactic(auto)]
+
 ghost use Rattle.std.specs.Prelude.{◌≡◌, length};
 ghost use Rattle.ops.specs.Wrote.{Wrote};
 ghost use Rattle.state.specs.Numbers.{check_number};
@@ -10,7 +12,7 @@ use bus_endpoint::{Order, OrderAnswer};
 use state::{Events, State, Wakes};
 
 // `end`: how many numbers of the list are taken.
-#[derive(Drop)]
+#[derive(Clone, Copy)]
 pub struct OrderResult {
     pub state: State,
     pub answer: OrderAnswer,

@@ -1,4 +1,6 @@
 // Power off (reference: `Bus` of device.rs), and what a power call answers.
+#![tactic(auto)]
+
 ghost use Rattle.std.specs.Prelude.{◌≡◌, ◌≤◌, length};
 ghost use Rattle.ops.specs.Ops.{list_numbers};
 ghost use Rattle.ops.specs.Wrote.{Wrote};
@@ -8,7 +10,7 @@ ghost use Rattle.bus_power_off.specs.PowerOff.{shut_ops, off_conditions, power_o
 
 use state::{Check, Events, Refusal, State, Wakes};
 
-#[derive(Drop)]
+#[derive(Clone, Copy)]
 pub enum PowerAnswer {
     Refused(Refusal),
     Powered,
@@ -16,7 +18,7 @@ pub enum PowerAnswer {
 }
 
 // `end`: how many numbers of the list are taken.
-#[derive(Drop)]
+#[derive(Clone, Copy)]
 pub struct PowerResult {
     pub state: State,
     pub answer: PowerAnswer,

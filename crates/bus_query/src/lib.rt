@@ -1,4 +1,6 @@
 // What can be asked of an endpoint (reference: `is_endpoint_stalled` of device.rs, `wait_enabled` of endpoint.rs).
+#![tactic(auto)]
+
 ghost use Rattle.std.specs.Prelude.{◌≡◌, []};
 ghost use Rattle.state.specs.Refusals.{first_refusal};
 ghost use Rattle.state_call.specs.Turn.{turn_of};
@@ -8,13 +10,13 @@ ghost use Rattle.bus_query.specs.declared.QueryAnswer.TheVariants as query;
 
 use state::{Awaited, Check, Events, Refusal, State, Wakes};
 
-#[derive(Drop)]
+#[derive(Clone, Copy)]
 pub enum QueryAnswer {
     Refused(Refusal),
     Says(bool),
 }
 
-#[derive(Drop)]
+#[derive(Clone, Copy)]
 pub struct QueryResult {
     pub answer: QueryAnswer,
     pub wakes: Wakes,

@@ -1,4 +1,6 @@
 // Resets of the control transfer and of the bus (reference: `control_reset` and `bus_reset` of device.rs).
+#![tactic(auto)]
+
 ghost use Rattle.std.specs.Prelude.{◌≡◌, ◌+◌, ◌≤◌, length};
 ghost use Rattle.ops.specs.Ops.{records};
 ghost use Rattle.ops.specs.Wrote.{Wrote};
@@ -8,7 +10,7 @@ ghost use Rattle.bus_reset.specs.Reset.{control_reset, bus_reset_state};
 use state::State;
 
 // What a bus reset leaves.
-#[derive(Drop)]
+#[derive(Clone, Copy)]
 pub struct Reset {
     pub state: State,
     pub end: usize,

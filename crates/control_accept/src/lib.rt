@@ -1,4 +1,6 @@
 // A request accepted (reference: `accept` and `accept_set_address` of control.rs).
+#![tactic(auto)]
+
 ghost use Rattle.std.specs.Prelude.{◌≡◌, [], ◌∷◌, length, ◌≤◌, true, cond, leb};
 ghost use Rattle.state.specs.Refusals.{first_refusal};
 ghost use Rattle.ops.specs.Wrote.{Wrote};

@@ -1,4 +1,6 @@
 // An IN data stage begun (reference: `data_in` of control.rs).
+#![tactic(auto)]
+
 ghost use Rattle.std.specs.Prelude.{◌≡◌, [], ◌∷◌, not, ltb, length};
 ghost use Rattle.state.specs.Refusals.{◌if◌, first_refusal};
 ghost use Rattle.ops.specs.Wrote.{Wrote};
@@ -66,7 +68,7 @@ pub fn data_in(
     if let Check::Refused(refusal) = check {
         return control_stage::refused(refusal, s);
     }
-    let length = bytes::copy(bytes, ep0);
+    let length = base::copies::copy(bytes, ep0);
     let sequence = next_sequence(first, s.tx_seq);
     let end = regs_control::ep0_tx_ready(ops, 0, sequence, length as u32);
     let wakes = state_slots::waking::no_wakes();

@@ -1,1 +1,2 @@
 // No code: specs/ has what the stages of control transfers keep.
+#![tactic(auto)]

@@ -1,4 +1,6 @@
 // An OUT data stage begun (reference: `data_out` of control.rs).
+#![tactic(auto)]
+
 ghost use Rattle.std.specs.Prelude.{◌≡◌, [], ◌∷◌, length};
 ghost use Rattle.state.specs.Refusals.{first_refusal};
 ghost use Rattle.ops.specs.Wrote.{Wrote};

@@ -1,4 +1,6 @@
 // A request rejected (reference: `reject` of control.rs).
+#![tactic(auto)]
+
 ghost use Rattle.std.specs.Prelude.{◌≡◌, [], ◌∷◌, length, cond};
 ghost use Rattle.state.specs.Refusals.{first_refusal};
 ghost use Rattle.ops.specs.Wrote.{Wrote};

@@ -1,5 +1,7 @@
 // Endpoint 0's part of an interrupt: its registers, and what becomes of its slots (reference: `transfer_irq` and `ep0_irq` of
 // device.rs).
+#![tactic(auto)]
+
 ghost use Rattle.std.specs.Prelude.{◌≡◌, cond, [], ◌+◌, ◌≤◌, length as list_length};
 ghost use Rattle.ops.specs.Ops.{records};
 ghost use Rattle.ops.specs.Wrote.{Wrote};

@@ -1,18 +1,20 @@
 // A SETUP fetched (reference: `setup` of control.rs).
+#![tactic(auto)]
+
 ghost use Rattle.std.specs.Prelude.{◌≡◌};
 ghost use Rattle.control_setup.specs.Setup.{setup_call, setup_numbers, setup_says};
 
 use state::{Check, Events, Refusal, Setup, State, Wakes};
 
 // `Fetched` has the eight bytes, and the generation that the stages of their transfer are to name.
-#[derive(Drop)]
+#[derive(Clone, Copy)]
 pub enum SetupAnswer {
     Refused(Refusal),
     Nothing,
     Fetched { setup: Setup, generation: u32 },
 }
 
-#[derive(Drop)]
+#[derive(Clone, Copy)]
 pub struct SetupResult {
     pub state: State,
     pub answer: SetupAnswer,

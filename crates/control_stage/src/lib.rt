@@ -1,4 +1,6 @@
 // What the stages of a control transfer share, and the answer to a request (reference: control.rs).
+#![tactic(auto)]
+
 ghost use Rattle.std.specs.Prelude.{◌≡◌, not, ◌&&◌, eqb};
 ghost use Rattle.state_slots.specs.Waking.{no_wakes};
 ghost use Rattle.control_stage.specs.declared.StageAnswer.TheVariants.{Refused, Unanswered};
@@ -7,7 +9,7 @@ ghost use Rattle.control_stage.specs.Stage.{staged_slot};
 use state::{Phase, Refusal, Slot, State, Wakes};
 
 // `Unanswered`: document 01 has no number for it.
-#[derive(Drop)]
+#[derive(Clone, Copy)]
 pub enum StageAnswer {
     Refused(Refusal),
     Accepted,
@@ -15,7 +17,7 @@ pub enum StageAnswer {
 }
 
 // `end`: how many numbers of the list are taken.
-#[derive(Drop)]
+#[derive(Clone, Copy)]
 pub struct StageResult {
     pub state: State,
     pub answer: StageAnswer,

@@ -1,4 +1,6 @@
 // What the takes of stages share, and an IN stage taken (reference: `stage` of control.rs).
+#![tactic(auto)]
+
 ghost use Rattle.std.specs.Prelude.{◌≡◌, not, [], ◌∷◌};
 ghost use Rattle.state.specs.Refusals.{◌if◌, first_refusal};
 ghost use Rattle.state.specs.declared.Refusal.TheVariants.{Disabled, UnfitBuffer};

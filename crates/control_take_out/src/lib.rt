@@ -1,4 +1,6 @@
 // An OUT stage taken (reference: `stage` of control.rs).
+#![tactic(auto)]
+
 ghost use Rattle.std.specs.Prelude.{◌≡◌, ◌≤◌, length, take};
 ghost use Rattle.state_call.specs.Outcome.{front};
 ghost use Rattle.transfer_take.specs.Take.{take_numbers};
@@ -20,7 +22,7 @@ fn copy_out(out: &mut [u8], ep0: &[u8], received: u32)
     ensures { out.new ≡ front (take received ep0.now) out.old }
 {
     let end = received as usize;
-    bytes::copy(&ep0[0..end], out);
+    base::copies::copy(&ep0[0..end], out);
 }
 
 // Says that an OUT stage is busy, or takes its bytes out of EP0's buffer, which is lent with its address. Where there is

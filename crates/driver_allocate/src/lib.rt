@@ -1,4 +1,6 @@
 // Allocating the endpoints of a driver (reference: `Driver::allocate` of device.rs).
+#![tactic(auto)]
+
 ghost use Rattle.std.specs.Prelude.{◌≡◌, ◌≤◌, ◌+◌, ◌*◌, ◌&&◌, cond, eqb};
 ghost use Rattle.driver_new.specs.New.{up4};
 ghost use Rattle.driver_allocate.specs.Rules.{present, size_fits, burst_fits, direction_fits, available, lowest};
@@ -8,13 +10,13 @@ use state::{
     Allocation, Buffer, Check, Driver, EndpointConfig, EndpointRequest, EndpointType, Refusal,
 };
 
-#[derive(Drop)]
+#[derive(Clone, Copy)]
 pub enum AllocateAnswer {
     Refused(Refusal),
     Endpoint(EndpointConfig),
 }
 
-#[derive(Drop)]
+#[derive(Clone, Copy)]
 pub struct AllocateResult {
     pub answer: AllocateAnswer,
     pub driver: Driver,

@@ -1,1 +1,2 @@
 // No code: specs/ has what holds of making, allocating and starting a driver.
+#![tactic(auto)]

@@ -1,18 +1,20 @@
 // Making a driver (reference: `Driver::new` of device.rs).
+#![tactic(auto)]
+
 ghost use Rattle.std.specs.Prelude.{◌≡◌};
 ghost use Rattle.state.specs.Numbers.{check_number};
 ghost use Rattle.driver_new.specs.New.{up4, capacity_of, new_check, new_number, empty_driver, new_result};
 
 use state::{Allocation, Check, Driver, Refusal};
 
-#[derive(Drop)]
+#[derive(Clone, Copy)]
 pub enum NewAnswer {
     Refused(Refusal),
     Made,
 }
 
 // Where creation is refused, `driver` has no memory and every call refuses it.
-#[derive(Drop)]
+#[derive(Clone, Copy)]
 pub struct NewResult {
     pub answer: NewAnswer,
     pub driver: Driver,

@@ -1,4 +1,6 @@
 // Whether a driver is sound (refusal 26).
+#![tactic(auto)]
+
 ghost use Rattle.std.specs.Prelude.{◌≡◌};
 ghost use Rattle.state_sound.specs.Sound.{driver_soundb, configb, memoryb, allocationsb};
 

@@ -1,4 +1,6 @@
 // Starting a driver (reference: `start` of device.rs).
+#![tactic(auto)]
+
 ghost use Rattle.std.specs.Prelude.{◌≡◌};
 ghost use Rattle.state.specs.Numbers.{check_number};
 ghost use Rattle.state.specs.Refusals.{first_refusal};
@@ -8,13 +10,13 @@ ghost use Rattle.state_slots.specs.Slots.{off_slot};
 
 use state::{Allocation, Awaited, Check, Driver, Events, Refusal, Slot, State, Wakes};
 
-#[derive(Drop)]
+#[derive(Clone, Copy)]
 pub enum StartAnswer {
     Refused(Refusal),
     Started,
 }
 
-#[derive(Drop)]
+#[derive(Clone, Copy)]
 pub struct StartResult {
     pub state: State,
     pub answer: StartAnswer,

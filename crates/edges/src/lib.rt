@@ -1,1 +1,2 @@
 // No code: specs/ has document 01's starred edges, as rows of one table.
+#![tactic(auto)]

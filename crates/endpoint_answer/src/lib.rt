@@ -1,4 +1,6 @@
 // What the calls of sends and receives answer.
+#![tactic(auto)]
+
 ghost use Rattle.std.specs.Prelude.{◌≡◌};
 ghost use Rattle.endpoint_answer.specs.Answers.{begun_answer, begunb};
 
@@ -7,7 +9,7 @@ use transfer_begin::BeginAnswer;
 
 // `Begun`: a piece of so many bytes is under way. `More`: the pieces so far have moved so many bytes, and another one is
 // to be begun from there. `Ended`: so many bytes were moved in all.
-#[derive(Drop)]
+#[derive(Clone, Copy)]
 pub enum MoveAnswer {
     Refused(Refusal),
     Begun(usize),
@@ -17,7 +19,7 @@ pub enum MoveAnswer {
 }
 
 // Of a call that begins a piece.
-#[derive(Drop)]
+#[derive(Clone, Copy)]
 pub struct MoveResult {
     pub state: State,
     pub answer: MoveAnswer,
@@ -26,7 +28,7 @@ pub struct MoveResult {
 }
 
 // Of a call that takes one.
-#[derive(Drop)]
+#[derive(Clone, Copy)]
 pub struct MovedResult {
     pub state: State,
     pub answer: MoveAnswer,

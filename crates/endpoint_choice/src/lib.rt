@@ -1,4 +1,6 @@
 // Which piece a send or a receive moves next (reference: `send` and `receive` of endpoint.rs).
+#![tactic(auto)]
+
 ghost use Rattle.std.specs.Prelude.{◌≡◌, ◌+◌, max as greatest};
 ghost use Rattle.endpoint_choice.specs.Choice.{place, place_after, reaches, closes, longer, own_unfit, send_direct, send_piece, send_begins, receive_direct, own_room, receive_room, receive_piece, choice, own_transfer};
 
@@ -6,7 +8,7 @@ use state::Slot;
 
 // What a caller asks for: one packet or a transfer, whether an empty packet is to close what is sent, where its bytes
 // lie, how many they are, and how many of them the pieces before have moved.
-#[derive(Drop)]
+#[derive(Clone, Copy)]
 pub struct Asked {
     pub single: bool,
     pub needs_zlp: bool,
@@ -16,7 +18,7 @@ pub struct Asked {
 }
 
 // A piece, and whether it is a part of the caller's bytes.
-#[derive(Drop)]
+#[derive(Clone, Copy)]
 pub struct Choice {
     pub address: u32,
     pub length: u32,

@@ -1,5 +1,7 @@
 // A send that has nothing left: it begins no transfer, but for its refusals it is a begin (reference: `send` of
 // endpoint.rs, which doesn't look at the endpoint then).
+#![tactic(auto)]
+
 ghost use Rattle.std.specs.Prelude.{◌≡◌, true};
 ghost use Rattle.state.specs.Refusals.{first_refusal};
 ghost use Rattle.state_slots.specs.Waking.{no_wakes};

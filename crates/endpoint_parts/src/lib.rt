@@ -1,5 +1,7 @@
 // The part of whichever of two lent slices a transfer uses, and the copies between them (reference: `chunks`, `rest` and
 // the copies of `Buffer` in endpoint.rs). Nothing is asked of the arguments: a part ends where its slice does.
+#![tactic(auto)]
+
 ghost use Rattle.std.specs.Prelude.{◌≡◌, ◌-◌, min as least, length};
 ghost use Rattle.endpoint_parts.specs.Parts.{part, piece_of, put};
 
@@ -39,5 +41,5 @@ pub fn copy_part(source: &[u8], from: usize, len: usize, target: &mut [u8], at: 
     let count = min_usize(len, room);
     let bytes = part(source, from, count);
     let end = start + bytes.len();
-    bytes::copy(bytes, &mut target[start..end]);
+    base::copies::copy(bytes, &mut target[start..end]);
 }

@@ -1,4 +1,6 @@
 // What a begin of a send or receive needs to know, and what is done with the bytes around it.
+#![tactic(auto)]
+
 ghost use Rattle.std.specs.Prelude.{◌≡◌, cond, ◌&&◌, not, [], min as least, length as list_length};
 ghost use Rattle.state_call.specs.Outcome.{front};
 ghost use Rattle.endpoint_parts.specs.Parts.{part, piece_of};
@@ -12,7 +14,7 @@ use transfer_begin::BeginAnswer;
 
 // The next piece: where it lies, how long it is, and whether an empty packet is to close it; whether it is a part of the
 // caller's bytes, and from where; what stands against it; and whether there is one to be begun.
-#[derive(Drop)]
+#[derive(Clone, Copy)]
 pub struct Plan {
     pub address: u32,
     pub length: u32,

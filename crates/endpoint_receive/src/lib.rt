@@ -1,4 +1,6 @@
 // A piece of a receive begun (reference: `read`, `read_transfer` and `receive` of endpoint.rs).
+#![tactic(auto)]
+
 ghost use Rattle.std.specs.Prelude.{◌≡◌, false, length};
 ghost use Rattle.ops.specs.Wrote.{Wrote};
 ghost use Rattle.endpoint_choice.specs.Choice.{asked as what};

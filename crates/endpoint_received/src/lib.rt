@@ -1,4 +1,6 @@
 // A piece of a receive taken (reference: the loop of `receive` in endpoint.rs).
+#![tactic(auto)]
+
 ghost use Rattle.std.specs.Prelude.{◌≡◌, false, ◌-◌, min as least, length};
 ghost use Rattle.transfer_take.specs.declared.TakeAnswer.TheVariants.{Taken};
 ghost use Rattle.endpoint_parts.specs.Parts.{part, put};

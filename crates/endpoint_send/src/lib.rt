@@ -1,4 +1,6 @@
 // A piece of a send begun (reference: `write`, `write_transfer` and `send` of endpoint.rs).
+#![tactic(auto)]
+
 ghost use Rattle.std.specs.Prelude.{◌≡◌, length};
 ghost use Rattle.ops.specs.Wrote.{Wrote};
 ghost use Rattle.state_call.specs.Outcome.{front};

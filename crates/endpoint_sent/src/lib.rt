@@ -1,4 +1,6 @@
 // A piece of a send taken (reference: the loop of `send` in endpoint.rs).
+#![tactic(auto)]
+
 ghost use Rattle.std.specs.Prelude.{◌≡◌, length};
 ghost use Rattle.endpoint_choice.specs.Choice.{asked as what};
 ghost use Rattle.endpoint_answer.specs.Answers.{move_numbers};

@@ -1,5 +1,7 @@
 // A reading of an interrupt handed in: the answer says which reading is awaited next, or that handling has ended (reference:
 // `on_interrupt` of device.rs).
+#![tactic(auto)]
+
 ghost use Rattle.std.specs.Prelude.{◌≡◌, length};
 ghost use Rattle.ops.specs.Wrote.{Wrote};
 ghost use Rattle.interrupt_asks.specs.Settled.{interrupt_numbers};

@@ -1,4 +1,6 @@
 // Which reading an interrupt awaits next, and how its calls end (reference: `link_irq` and `on_interrupt` of device.rs).
+#![tactic(auto)]
+
 ghost use Rattle.std.specs.Prelude.{◌≡◌, cond, ◌+◌, ◌≤◌, length};
 ghost use Rattle.ops.specs.Ops.{records};
 ghost use Rattle.ops.specs.Wrote.{Wrote};
@@ -12,7 +14,7 @@ ghost use Rattle.interrupt_asks.specs.Asking.{behind_timeout, behind_timeout_ops
 use ops::numbers::*;
 use state::{Awaited, Awaiting, Events, LinkFlags, Refusal, State, Wakes};
 
-#[derive(Drop)]
+#[derive(Clone, Copy)]
 pub enum InterruptAnswer {
     Refused(Refusal),
     Awaits(Awaiting),
@@ -20,7 +22,7 @@ pub enum InterruptAnswer {
 }
 
 // `end`: how many numbers of the list are taken.
-#[derive(Drop)]
+#[derive(Clone, Copy)]
 pub struct InterruptResult {
     pub state: State,
     pub events: Events,
@@ -30,7 +32,7 @@ pub struct InterruptResult {
 }
 
 // How a call ends: what is still awaited, what it says, whom it leaves to be woken, and whom it wakes.
-#[derive(Drop)]
+#[derive(Clone, Copy)]
 pub struct Ending {
     pub awaited: Awaited,
     pub answer: InterruptAnswer,
@@ -39,7 +41,7 @@ pub struct Ending {
 }
 
 // The reading that is asked for next, or none, and where the list ends.
-#[derive(Drop)]
+#[derive(Clone, Copy)]
 pub struct Asked {
     pub next: Awaiting,
     pub end: usize,

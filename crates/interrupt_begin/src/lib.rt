@@ -1,4 +1,6 @@
 // An interrupt begun, and what its readings share with it (reference: `on_interrupt` of device.rs).
+#![tactic(auto)]
+
 ghost use Rattle.std.specs.Prelude.{◌≡◌, length};
 ghost use Rattle.ops.specs.Wrote.{Wrote};
 ghost use Rattle.state_slots.specs.Waking.{no_wakes};

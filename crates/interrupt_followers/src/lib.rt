@@ -1,4 +1,6 @@
 // Endpoint 0's readings behind the transfer status, by the slot that each is about (reference: `ep0_irq` of device.rs).
+#![tactic(auto)]
+
 ghost use Rattle.std.specs.Prelude.{◌≡◌, [], ℕ, ◌≤◌, length};
 ghost use Rattle.ops.specs.Ops.{list_numbers};
 ghost use Rattle.ops.specs.Wrote.{Wrote};
@@ -15,7 +17,7 @@ use ops::numbers::*;
 use state::{Awaited, Check, EP0_SIZE, Reading, Refusal};
 
 // What a reading of the transfers comes to.
-#[derive(Drop)]
+#[derive(Clone, Copy)]
 pub struct Turn {
     pub check: Check,
     pub effect: TransferEffect,

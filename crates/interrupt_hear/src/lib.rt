@@ -1,5 +1,7 @@
 // A reading, whichever is awaited, by what it looks at and changes: the call that has the state takes these pieces out of it
 // and stores them back.
+#![tactic(auto)]
+
 ghost use Rattle.std.specs.Prelude.{◌≡◌, ◌≤◌, length};
 ghost use Rattle.ops.specs.Ops.{list_numbers};
 ghost use Rattle.ops.specs.Wrote.{Wrote};
@@ -12,7 +14,7 @@ use interrupt_transfer::{Sight, TransferEffect};
 use state::{Awaited, Check, Reading};
 
 // What a reading comes to.
-#[derive(Drop)]
+#[derive(Clone, Copy)]
 pub struct Heard {
     pub check: Check,
     pub link: LinkEffect,

@@ -1,5 +1,7 @@
 // What an interrupt does for the link: terminations, messages, a warm reset, and what is shared with a change of its state
 // (reference: `link_irq` of device.rs).
+#![tactic(auto)]
+
 ghost use Rattle.std.specs.Prelude.{◌≡◌, ◌+◌, ◌≤◌, length};
 ghost use Rattle.ops.specs.Ops.{records};
 ghost use Rattle.ops.specs.Wrote.{Wrote};
@@ -9,7 +11,7 @@ use state::Events;
 use state_events::Event;
 
 // What a reading of the link changes beside the registers: whether the bus is reset, the link's flags, the events.
-#[derive(Drop)]
+#[derive(Clone, Copy)]
 pub struct LinkEffect {
     pub resets: bool,
     pub suspended: bool,
@@ -18,7 +20,7 @@ pub struct LinkEffect {
     pub events: Events,
 }
 
-#[derive(Drop)]
+#[derive(Clone, Copy)]
 pub struct Acted {
     pub effect: LinkEffect,
     pub end: usize,

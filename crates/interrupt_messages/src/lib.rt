@@ -1,4 +1,6 @@
 // The later readings of the link: terminations, a message, a warm reset.
+#![tactic(auto)]
+
 ghost use Rattle.std.specs.Prelude.{◌≡◌, ℕ, ◌≤◌, length};
 ghost use Rattle.ops.specs.Ops.{list_numbers};
 ghost use Rattle.ops.specs.Wrote.{Wrote};

@@ -1,4 +1,6 @@
 // A reading of an interrupt, by the one that is awaited: another is refused with 24, one out of range with 11.
+#![tactic(auto)]
+
 ghost use Rattle.std.specs.Prelude.{◌≡◌, [], ℕ, ◌+◌, ◌≤◌, length};
 ghost use Rattle.ops.specs.Ops.{records, list_numbers};
 ghost use Rattle.ops.specs.Wrote.{Wrote};
@@ -14,7 +16,7 @@ use ops::numbers::*;
 use state::{Awaited, Awaiting, Check, LinkFlags, LinkState, Reading, Refusal};
 
 // What a reading of the link comes to.
-#[derive(Drop)]
+#[derive(Clone, Copy)]
 pub struct LinkTurn {
     pub check: Check,
     pub effect: LinkEffect,

@@ -1,4 +1,6 @@
 // The slots that a reading is about: the one that it changes, and those that are counted for the window.
+#![tactic(auto)]
+
 ghost use Rattle.std.specs.Prelude.{◌≡◌, ◌≤◌, ◌<◌, length};
 ghost use Rattle.interrupt_transfer.specs.Pieces.{status_slot};
 ghost use Rattle.interrupt_hear.specs.Hear.{slots_heard, heard_slot};

@@ -1,4 +1,6 @@
 // The transfer status, by the slot that it is about (reference: `transfer_irq` of device.rs).
+#![tactic(auto)]
+
 ghost use Rattle.std.specs.Prelude.{◌≡◌, ◌+◌, ◌≤◌, length};
 ghost use Rattle.ops.specs.Ops.{records, list_numbers};
 ghost use Rattle.ops.specs.Wrote.{Wrote};

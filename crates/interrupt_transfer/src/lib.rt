@@ -1,5 +1,7 @@
 // What readings of the transfers look at and change, and the end of a chain by its slot (reference: `transfer_irq` and
 // `data_irq` of device.rs).
+#![tactic(auto)]
+
 ghost use Rattle.std.specs.Prelude.{◌≡◌, ◌+◌, ◌≤◌, length};
 ghost use Rattle.ops.specs.Ops.{records};
 ghost use Rattle.ops.specs.Wrote.{Wrote};
@@ -10,7 +12,7 @@ use state::{Awaited, Awaiting, Setup, Slot};
 
 // What a reading of the transfers looks at: the most packets of a chain, the window of the OUT endpoints, the address that
 // waits, and whether the IN packet is the last of its stage.
-#[derive(Drop)]
+#[derive(Clone, Copy)]
 pub struct Sight {
     pub limit: u8,
     pub window: u32,
@@ -20,7 +22,7 @@ pub struct Sight {
 
 // What it changes beside the registers: its slot, the slots to be woken, whether an address waits, the sequence of the last
 // IN packet, and a SETUP that has come.
-#[derive(Drop)]
+#[derive(Clone, Copy)]
 pub struct TransferEffect {
     pub slot: Slot,
     pub wake: u16,
@@ -31,7 +33,7 @@ pub struct TransferEffect {
 }
 
 // What a reading leaves, what is awaited behind it, and where the list ends.
-#[derive(Drop)]
+#[derive(Clone, Copy)]
 pub struct TransferTurn {
     pub effect: TransferEffect,
     pub awaited: Awaited,

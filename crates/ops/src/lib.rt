@@ -1,6 +1,8 @@
 // The list of register operations: records of 32-bit numbers, stored one after the other in a lent list.
 //
 // `put` alone knows how a record lies in the list. Whoever adds operations lends `append` an array of rows.
+#![tactic(auto)]
+
 ghost use Rattle.std.specs.Prelude.{◌+◌, ◌≤◌, length};
 ghost use Rattle.ops.specs.Ops.{records};
 ghost use Rattle.ops.specs.Stores.{Stored};

@@ -1,4 +1,6 @@
 // The registers of a data endpoint, 1 to 7.
+#![tactic(auto)]
+
 ghost use Rattle.std.specs.Prelude.{◌≡◌, ◌+◌, ◌≤◌, length};
 ghost use Rattle.ops.specs.Ops.{records};
 ghost use Rattle.ops.specs.Wrote.{Wrote};
@@ -7,7 +9,7 @@ ghost use Rattle.regs_endpoint.specs.Endpoint.{bank_of, clear_ops, cfg_ops, conf
 use ops::numbers::*;
 
 // The registers of an endpoint's direction, and the field of its enable bit.
-#[derive(Drop)]
+#[derive(Clone, Copy)]
 pub struct Bank {
     pub cfg: u32,
     pub cr: u32,

@@ -1,4 +1,7 @@
 // Runs a script of calls from standard input and prints what each of them does (docs/REPLAY.md).
-fn main() {
-    tool_run::script();
+#![tactic(auto)]
+
+fn main(rt: HostRuntime) {
+    let mut source = rt.reader();
+    tool_run::script(&rt, &mut source);
 }

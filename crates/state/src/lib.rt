@@ -1,13 +1,15 @@
 // The driver's state and what its calls answer (reference: the types of device.rs).
 //
 // An `Option` of the Rust is a flag and a value here; where the flag is clear, the value means nothing.
+#![tactic(auto)]
+
 pub mod fresh;
 pub mod readings;
 pub mod refusals;
 
 pub const EP0_SIZE: u32 = 512;
 
-#[derive(Drop)]
+#[derive(Clone, Copy)]
 pub enum EndpointType {
     Control,
     Isochronous,
@@ -16,14 +18,14 @@ pub enum EndpointType {
 }
 
 // Where a buffer lies, and how long it is.
-#[derive(Drop)]
+#[derive(Clone, Copy)]
 pub struct Buffer {
     pub address: u32,
     pub size: u32,
 }
 
 // What an endpoint was allocated with. `index` and `incoming` are its address, `buffer` is its own buffer.
-#[derive(Drop)]
+#[derive(Clone, Copy)]
 pub struct EndpointConfig {
     pub index: u8,
     pub incoming: bool,
@@ -34,7 +36,7 @@ pub struct EndpointConfig {
     pub buffer: Buffer,
 }
 
-#[derive(Drop)]
+#[derive(Clone, Copy)]
 pub enum Phase {
     Idle,
     Busy,
@@ -42,7 +44,7 @@ pub enum Phase {
 }
 
 // `progress`: of IN the bytes handed to the controller, of OUT those received. `zlp`: an empty packet is to follow.
-#[derive(Drop)]
+#[derive(Clone, Copy)]
 pub struct Transfer {
     pub address: u32,
     pub length: u32,
@@ -51,7 +53,7 @@ pub struct Transfer {
 }
 
 // Transfers of a data slot, and their bytes, modulo 2^32.
-#[derive(Drop)]
+#[derive(Clone, Copy)]
 pub struct Tally {
     pub begun: u32,
     pub finished: u32,
@@ -60,7 +62,7 @@ pub struct Tally {
 }
 
 // One direction of an endpoint; its number is 2 * index, and 1 more for IN.
-#[derive(Drop)]
+#[derive(Clone, Copy)]
 pub struct Slot {
     pub configured: bool,
     pub enabled: bool,
@@ -72,7 +74,7 @@ pub struct Slot {
 }
 
 // The eight bytes of a SETUP.
-#[derive(Drop)]
+#[derive(Clone, Copy)]
 pub struct Setup {
     pub b0: u8,
     pub b1: u8,
@@ -85,7 +87,7 @@ pub struct Setup {
 }
 
 // States of the link that the driver tells apart.
-#[derive(Drop)]
+#[derive(Clone, Copy)]
 pub enum LinkState {
     U0,
     U1,
@@ -99,7 +101,7 @@ pub enum LinkState {
 }
 
 // The flags of `link_int_flag`.
-#[derive(Drop)]
+#[derive(Clone, Copy)]
 pub struct LinkFlags {
     pub link_if_tx_lmp: bool,
     pub link_if_rx_lmp: bool,
@@ -110,7 +112,7 @@ pub struct LinkFlags {
     pub link_if_rx_set_fc: bool,
 }
 
-#[derive(Drop)]
+#[derive(Clone, Copy)]
 pub struct LinkStatus {
     pub link_state: LinkState,
     pub link_rx_term_pres: bool,
@@ -118,7 +120,7 @@ pub struct LinkStatus {
 }
 
 // The register `status`.
-#[derive(Drop)]
+#[derive(Clone, Copy)]
 pub struct TransferStatus {
     pub udif_setup: bool,
     pub udif_status: bool,
@@ -132,7 +134,7 @@ pub struct TransferStatus {
 }
 
 // What was read off the registers for an interrupt.
-#[derive(Drop)]
+#[derive(Clone, Copy)]
 pub enum Reading {
     LinkFlags(LinkFlags),
     LinkStatus(LinkStatus),
@@ -147,7 +149,7 @@ pub enum Reading {
 }
 
 // The reading that an interrupt awaits. The link status is asked at up to three places.
-#[derive(Drop)]
+#[derive(Clone, Copy)]
 pub enum Awaiting {
     Nothing,
     LinkFlags,
@@ -166,7 +168,7 @@ pub enum Awaiting {
 
 // What an interrupt awaits next, and what it remembers of earlier readings: the link's flags and state, and of a chain
 // report the endpoint and its packets.
-#[derive(Drop)]
+#[derive(Clone, Copy)]
 pub struct Awaited {
     pub next: Awaiting,
     pub flags: LinkFlags,
@@ -175,7 +177,7 @@ pub struct Awaited {
     pub packets: u8,
 }
 
-#[derive(Drop)]
+#[derive(Clone, Copy)]
 pub struct State {
     pub endpoints: [Slot; 16],
     // where EP0's 512 bytes begin; 0 before the first start
@@ -205,7 +207,7 @@ pub struct State {
 }
 
 // The pending events, one bit each.
-#[derive(Drop)]
+#[derive(Clone, Copy)]
 pub struct Events {
     pub events: u8,
 }
@@ -219,21 +221,21 @@ pub const RESUME: u8 = 4;
 pub const POWER: u8 = 8;
 
 // Who is to look again after a call: the bus, and the slots of a 16-bit set.
-#[derive(Drop)]
+#[derive(Clone, Copy)]
 pub struct Wakes {
     pub bus: bool,
     pub slots: u16,
 }
 
 // What is allocated for a slot.
-#[derive(Drop)]
+#[derive(Clone, Copy)]
 pub struct Allocation {
     pub configured: bool,
     pub config: EndpointConfig,
 }
 
 // `memory` begins with EP0's 512 bytes; `used` of its `capacity` bytes are taken.
-#[derive(Drop)]
+#[derive(Clone, Copy)]
 pub struct Driver {
     pub memory: u32,
     pub capacity: u32,
@@ -242,7 +244,7 @@ pub struct Driver {
 }
 
 // What an endpoint is to be. Where `requested`, it is to have the address of `index` and `incoming`.
-#[derive(Drop)]
+#[derive(Clone, Copy)]
 pub struct EndpointRequest {
     pub requested: bool,
     pub index: u8,
@@ -256,7 +258,7 @@ pub struct EndpointRequest {
 }
 
 // Why a call is refused; `refusal_number` has the numbers.
-#[derive(Drop)]
+#[derive(Clone, Copy)]
 pub enum Refusal {
     MemoryOutsideRam,
     MemoryTooSmall,
@@ -279,7 +281,7 @@ pub enum Refusal {
 }
 
 // What a call's tests come to.
-#[derive(Drop)]
+#[derive(Clone, Copy)]
 pub enum Check {
     Fits,
     Refused(Refusal),

@@ -1,4 +1,6 @@
 // The refusals that come before a call's own.
+#![tactic(auto)]
+
 ghost use Rattle.std.specs.Prelude.{◌≡◌, not, ltb};
 ghost use Rattle.ops.specs.Ops.{list_numbers};
 ghost use Rattle.state.specs.Awaiting.{awaitingb};

@@ -1,11 +1,13 @@
 // The byte of pending events (reference: `raise` and `poll` of device.rs).
+#![tactic(auto)]
+
 ghost use Rattle.std.specs.Prelude.{◌<◌, ◌≡◌, true};
 ghost use Rattle.state_events.specs.Bytes.{pendingb, events_soundb};
 ghost use Rattle.state_events.specs.Events.{event_number, eventb, with_event, without_event, only_reset, raised, raise_byte, raise_event, next_pending, without_pending};
 
 use state::{Events, POWER, RESET, RESUME, SUSPEND};
 
-#[derive(Drop)]
+#[derive(Clone, Copy)]
 pub enum Event {
     PowerDetected,
     Reset,
@@ -14,7 +16,7 @@ pub enum Event {
 }
 
 // The event that is to be handed out next.
-#[derive(Drop)]
+#[derive(Clone, Copy)]
 pub enum Pending {
     Nothing,
     Event(Event),

@@ -6,7 +6,7 @@ ghost use Rattle.state_slots.specs.Slots.{moved_slot};
 use state::{Events, Phase, Slot, Transfer, Wakes};
 
 // A slot, and the slots that the end of the interrupt wakes.
-#[derive(Drop)]
+#[derive(Clone, Copy)]
 pub struct Completed {
     pub slot: Slot,
     pub wake: u16,

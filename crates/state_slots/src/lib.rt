@@ -1,4 +1,6 @@
 // One slot: its number, its phase, and how it forgets its transfer.
+#![tactic(auto)]
+
 ghost use Rattle.std.specs.Prelude.{◌≡◌};
 ghost use Rattle.state_slots.specs.Slots.{idleb, busyb, slot_number, slot_place, data_endpoint, tally_cut, forgotten, reset_slot};
 ghost use Rattle.state.specs.Setters.{with_slot};

@@ -1,4 +1,6 @@
 // Whether a state is sound (refusal 26). Each call that gets one asks it.
+#![tactic(auto)]
+
 ghost use Rattle.std.specs.Prelude.{◌≡◌, true};
 ghost use Rattle.state_sound.specs.Clauses.{in_ram, aligned, multiple, whole_packets};
 ghost use Rattle.state_sound.specs.Sound.{soundb, configb, outb, busy_clausesb, slotb, awaitedb, ownb};

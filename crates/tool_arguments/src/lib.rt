@@ -1,10 +1,12 @@
 // A line's numbers, in the types that the calls take. One too large for its type is the largest, which is refused or
 // ignored as it would be.
+#![tactic(auto)]
+
 ghost use Rattle.std.specs.Prelude.{◌≡◌, ltb};
 ghost use Rattle.tool_scripts.specs.Script.{number_at, held_to};
 
 // An endpoint's address.
-#[derive(Drop)]
+#[derive(Clone, Copy)]
 pub struct Address {
     pub index: u8,
     pub incoming: bool,

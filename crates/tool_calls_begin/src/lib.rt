@@ -1,15 +1,17 @@
 // A transfer begun.
+#![tactic(auto)]
+
 use transfer_begin::{BeginAnswer, BeginResult};
 use world::World;
 
-pub fn begin(list: &mut [u32; 640], world: World, line: &[u8]) -> World {
+pub fn begin(rt: &impl Print, list: &mut [u32; 640], world: World, line: &[u8]) -> World {
     let begun = begun(list, world, line);
-    tool_print::operations(list, begun.end);
+    tool_print::operations(rt, list, begun.end);
     let answer = begun.answer;
     let wakes = begun.wakes;
     match answer {
-        BeginAnswer::Refused(refusal) => tool_answers::refused(refusal),
-        BeginAnswer::Begun => tool_answers::answer(0, 0, wakes),
+        BeginAnswer::Refused(refusal) => tool_answers::refused(rt, refusal),
+        BeginAnswer::Begun => tool_answers::answer(rt, 0, 0, wakes),
     }
     let after = begun.state;
     world::with_state(world, after)

@@ -1,4 +1,6 @@
 // A SETUP fetched, stages of endpoint 0 taken, and the generation set.
+#![tactic(auto)]
+
 use control_setup::SetupAnswer;
 use state::{Setup, Wakes};
 use tool_scripts::number;
@@ -7,51 +9,51 @@ use transfer_take::{TakeAnswer, TakeResult};
 use world::World;
 
 // A word of another group is unfit here.
-pub fn call(world: World, word: Word, line: &[u8]) -> World {
+pub fn call(rt: &impl Print, world: World, word: Word, line: &[u8]) -> World {
     match word {
-        Word::Setup => setup(world),
-        Word::TakeOut => take_out(world, line),
-        Word::TakeIn => take_in(world, line),
-        Word::Generation => generation(world, line),
+        Word::Setup => setup(rt, world),
+        Word::TakeOut => take_out(rt, world, line),
+        Word::TakeIn => take_in(rt, world, line),
+        Word::Generation => generation(rt, world, line),
         _ => {
-            tool_answers::unfit();
+            tool_answers::unfit(rt);
             world
         }
     }
 }
 
-fn setup(world: World) -> World {
+fn setup(rt: &impl Print, world: World) -> World {
     let state = world.state;
     let events = world.events;
     let fetched = control_setup::setup(state, events);
     let answer = fetched.answer;
     let wakes = fetched.wakes;
     match answer {
-        SetupAnswer::Refused(refusal) => tool_answers::refused(refusal),
-        SetupAnswer::Nothing => tool_answers::answer(0, 0, wakes),
-        SetupAnswer::Fetched { setup, generation } => found(setup, generation, wakes),
+        SetupAnswer::Refused(refusal) => tool_answers::refused(rt, refusal),
+        SetupAnswer::Nothing => tool_answers::answer(rt, 0, 0, wakes),
+        SetupAnswer::Fetched { setup, generation } => found(rt, setup, generation, wakes),
     }
     let after = fetched.state;
     world::with_state(world, after)
 }
 
-fn found(setup: Setup, generation: u32, wakes: Wakes) {
-    tool_cells::text(b"setup");
-    tool_cells::number(setup.b0 as u32);
-    tool_cells::number(setup.b1 as u32);
-    tool_cells::number(setup.b2 as u32);
-    tool_cells::number(setup.b3 as u32);
-    tool_cells::number(setup.b4 as u32);
-    tool_cells::number(setup.b5 as u32);
-    tool_cells::number(setup.b6 as u32);
-    tool_cells::number(setup.b7 as u32);
-    tool_cells::number(generation);
-    tool_cells::text(b"\n");
-    tool_answers::answer(0, 1, wakes);
+fn found(rt: &impl Print, setup: Setup, generation: u32, wakes: Wakes) {
+    tool_cells::text(rt, b"setup");
+    tool_cells::number(rt, setup.b0 as u32);
+    tool_cells::number(rt, setup.b1 as u32);
+    tool_cells::number(rt, setup.b2 as u32);
+    tool_cells::number(rt, setup.b3 as u32);
+    tool_cells::number(rt, setup.b4 as u32);
+    tool_cells::number(rt, setup.b5 as u32);
+    tool_cells::number(rt, setup.b6 as u32);
+    tool_cells::number(rt, setup.b7 as u32);
+    tool_cells::number(rt, generation);
+    tool_cells::text(rt, b"\n");
+    tool_answers::answer(rt, 0, 1, wakes);
 }
 
 // A stage has 512 bytes at most, so that more room changes nothing.
-fn take_out(world: World, line: &[u8]) -> World {
+fn take_out(rt: &impl Print, world: World, line: &[u8]) -> World {
     let generation = number(line, 0);
     let address = number(line, 1);
     let length = number(line, 2);
@@ -66,39 +68,39 @@ fn take_out(world: World, line: &[u8]) -> World {
     let result = control_take_out::take_out(state, events, generation, &mut out[0..room], &ep0, at);
     let answer = result.answer;
     if let TakeAnswer::Taken(received) = answer {
-        tool_copies::copied(at, address, &out, received);
+        tool_copies::copied(rt, at, address, &out, received);
     }
-    taken(world, result)
+    taken(rt, world, result)
 }
 
-fn take_in(world: World, line: &[u8]) -> World {
+fn take_in(rt: &impl Print, world: World, line: &[u8]) -> World {
     let generation = number(line, 0);
     let state = world.state;
     let events = world.events;
     let result = control_take::take_in(state, events, generation);
-    taken(world, result)
+    taken(rt, world, result)
 }
 
-fn taken(world: World, res: TakeResult) -> World {
+fn taken(rt: &impl Print, world: World, res: TakeResult) -> World {
     let answer = res.answer;
     let wakes = res.wakes;
     match answer {
-        TakeAnswer::Refused(refusal) => tool_answers::refused(refusal),
-        TakeAnswer::Busy => tool_answers::busy(),
-        TakeAnswer::Taken(bytes) => tool_answers::answer(0, bytes, wakes),
+        TakeAnswer::Refused(refusal) => tool_answers::refused(rt, refusal),
+        TakeAnswer::Busy => tool_answers::busy(rt),
+        TakeAnswer::Taken(bytes) => tool_answers::answer(rt, 0, bytes, wakes),
     }
     let after = res.state;
     world::with_state(world, after)
 }
 
 // No call of the driver. Only without power can the Rust be asked.
-fn generation(world: World, line: &[u8]) -> World {
+fn generation(rt: &impl Print, world: World, line: &[u8]) -> World {
     let mut state = world.state;
     if state.powered {
-        tool_answers::unfit();
+        tool_answers::unfit(rt);
         return world;
     }
     state.control_generation = number(line, 0);
-    tool_answers::done(0);
+    tool_answers::done(rt, 0);
     world::with_state(world, state)
 }

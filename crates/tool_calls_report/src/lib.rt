@@ -1,23 +1,25 @@
 // The report of a chain by an interrupt of its own, in which the link has nothing to say.
+#![tactic(auto)]
+
 use interrupt_asks::{InterruptAnswer, InterruptResult};
 use state::{LinkFlags, LinkState, LinkStatus, Reading, Refusal, TransferStatus, Wakes};
 use tool_arguments::Address;
 use world::World;
 
 // Such an interrupt is asked for with power, of a data endpoint, and with numbers that registers can hold.
-pub fn report(list: &mut [u32; 640], world: World, line: &[u8]) -> World {
+pub fn report(rt: &impl Print, list: &mut [u32; 640], world: World, line: &[u8]) -> World {
     let fits = fits(line);
     let awaited = world.state.awaited;
     let next = awaited.next;
     let awaiting = state::readings::is_awaiting(next);
     if awaiting {
-        tool_answers::refused(Refusal::OutOfTurn);
+        tool_answers::refused(rt, Refusal::OutOfTurn);
         return world;
     }
     if world.state.powered & fits {
-        return reported(list, world, line);
+        return reported(rt, list, world, line);
     }
-    tool_answers::unfit();
+    tool_answers::unfit(rt);
     world
 }
 
@@ -29,18 +31,18 @@ fn fits(line: &[u8]) -> bool {
     data & (packets < 256) & (last < 65536)
 }
 
-fn reported(list: &mut [u32; 640], world: World, line: &[u8]) -> World {
+fn reported(rt: &impl Print, list: &mut [u32; 640], world: World, line: &[u8]) -> World {
     let at = tool_arguments::endpoint(line);
     let packets = tool_scripts::number(line, 2);
     let last = tool_scripts::number(line, 3);
     let begun = begin(list, world);
-    let quiet = link(list, begun);
-    let status = transfer(list, quiet, at);
+    let quiet = link(rt, list, begun);
+    let status = transfer(rt, list, quiet, at);
     if at.incoming {
         return status;
     }
-    let counted = next(list, status, Reading::ChainPackets(packets));
-    next(list, counted, Reading::LastLength(last))
+    let counted = next(rt, list, status, Reading::ChainPackets(packets));
+    next(rt, list, counted, Reading::LastLength(last))
 }
 
 fn begin(list: &mut [u32; 640], world: World) -> World {
@@ -51,7 +53,7 @@ fn begin(list: &mut [u32; 640], world: World) -> World {
 }
 
 // No flag of the link is set.
-fn link(list: &mut [u32; 640], world: World) -> World {
+fn link(rt: &impl Print, list: &mut [u32; 640], world: World) -> World {
     let flags = LinkFlags {
         link_if_tx_lmp: false,
         link_if_rx_lmp: false,
@@ -66,11 +68,11 @@ fn link(list: &mut [u32; 640], world: World) -> World {
         link_rx_term_pres: true,
         link_rx_warm_rst: false,
     };
-    let flagged = next(list, world, Reading::LinkFlags(flags));
-    next(list, flagged, Reading::LinkStatus(status))
+    let flagged = next(rt, list, world, Reading::LinkFlags(flags));
+    next(rt, list, flagged, Reading::LinkStatus(status))
 }
 
-fn transfer(list: &mut [u32; 640], world: World, at: Address) -> World {
+fn transfer(rt: &impl Print, list: &mut [u32; 640], world: World, at: Address) -> World {
     let status = TransferStatus {
         udif_setup: false,
         udif_status: false,
@@ -82,25 +84,25 @@ fn transfer(list: &mut [u32; 640], world: World, at: Address) -> World {
         uif_fifo_txov: false,
         uif_fifo_rxov: false,
     };
-    next(list, world, Reading::TransferStatus(status))
+    next(rt, list, world, Reading::TransferStatus(status))
 }
 
 // A reading, and what is written behind it.
-fn next(list: &mut [u32; 640], world: World, reading: Reading) -> World {
+fn next(rt: &impl Print, list: &mut [u32; 640], world: World, reading: Reading) -> World {
     let state = world.state;
     let events = world.events;
     let result = interrupt::answer(list, state, events, reading);
-    tool_print::operations(list, result.end);
+    tool_print::operations(rt, list, result.end);
     let answer = result.answer;
     let wakes = result.wakes;
-    tell(answer, wakes);
+    tell(rt, answer, wakes);
     left(world, result)
 }
 
 // Only the end of handling is told.
-fn tell(answer: InterruptAnswer, wakes: Wakes) {
+fn tell(rt: &impl Print, answer: InterruptAnswer, wakes: Wakes) {
     match answer {
-        InterruptAnswer::Ended => tool_answers::answer(0, 0, wakes),
+        InterruptAnswer::Ended => tool_answers::answer(rt, 0, 0, wakes),
         _ => {}
     }
 }

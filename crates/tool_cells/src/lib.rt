@@ -1,10 +1,10 @@
 // Text on standard output, and numbers behind tabs.
+#![tactic(auto)]
+
 ghost use Rattle.std.specs.Prelude.{◌+◌, ◌≤◌, length};
 
-use libc::STDOUT_FILENO;
-
-pub fn text(bytes: &[u8]) {
-    io::write_all(STDOUT_FILENO, bytes);
+pub fn text(rt: &impl Print, bytes: &[u8]) {
+    let _ = rt.write_all(bytes);
 }
 
 // A number behind its tab, put into a text at `at`: where it ends.
@@ -17,12 +17,12 @@ pub fn put_cell(text: &mut [u8], at: usize, n: u32) -> usize
 }
 
 // The same, written.
-pub fn number(n: u32) {
+pub fn number(rt: &impl Print, n: u32) {
     let mut text = [0u8; 11];
     let end = put_cell(&mut text, 0, n);
-    io::write_all(STDOUT_FILENO, &text[0..end]);
+    let _ = rt.write_all(&text[0..end]);
 }
 
-pub fn flag(set: bool) {
-    number(set as u32);
+pub fn flag(rt: &impl Print, set: bool) {
+    number(rt, set as u32);
 }

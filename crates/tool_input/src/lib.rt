@@ -1,16 +1,18 @@
-// Standard input, line by line, through a buffer. A line that doesn't leave the buffer a free byte is too long.
+// An input, line by line, through a buffer. A line that doesn't leave the buffer a free byte is too long.
+#![tactic(auto)]
+
 ghost use Rattle.std.specs.Prelude.{◌≡◌, ◌+◌, ◌≤◌, ◌<◌, length};
 
-use libc::STDIN_FILENO;
+use std::io::Read;
 
 // The buffer's bytes from `from` up to `end` came from the input and haven't been given out.
-#[derive(Drop)]
+#[derive(Clone, Copy)]
 pub struct Reader {
     pub from: usize,
     pub end: usize,
 }
 
-#[derive(Drop)]
+#[derive(Clone, Copy)]
 pub enum Found {
     Line,
     TooLong,
@@ -18,7 +20,7 @@ pub enum Found {
 }
 
 // A line lies in the buffer from `start` up to `stop`, its line feed left out.
-#[derive(Drop)]
+#[derive(Clone, Copy)]
 pub struct Next {
     pub found: Found,
     pub start: usize,
@@ -35,7 +37,7 @@ pub fn at_start() -> Reader
 
 // The next line. The last one may have no line feed. The turns are counted down, so that the loop ends whatever the
 // input does.
-pub fn next_line(buffer: &mut [u8], reader: Reader) -> Next
+pub fn next_line(source: &mut impl Read, buffer: &mut [u8], reader: Reader) -> Next
     requires { 0 < length buffer.old }
     ensures start_le_stop { result.start ≤ result.stop }
     ensures stop_in_bounds { result.stop ≤ length buffer.new }
@@ -50,9 +52,9 @@ pub fn next_line(buffer: &mut [u8], reader: Reader) -> Next
         }
         let held = keep(buffer, from, end);
         if held == buffer.len() {
-            return too_long(buffer);
+            return too_long(source, buffer);
         }
-        let filled = fill(buffer, held);
+        let filled = fill(source, buffer, held);
         if filled == held {
             return last_line(held);
         }
@@ -97,12 +99,12 @@ fn last_line(held: usize) -> Next
 }
 
 // Leaves out what comes up to the next line feed.
-fn too_long(buffer: &mut [u8]) -> Next
+fn too_long(source: &mut impl Read, buffer: &mut [u8]) -> Next
     requires { 0 < length buffer.old }
     ensures start_value { result.start ≡ 0 }
     ensures stop_value { result.stop ≡ 0 }
 {
-    let reader = skip(buffer);
+    let reader = skip(source, buffer);
     Next {
         found: Found::TooLong,
         start: 0,
@@ -111,12 +113,12 @@ fn too_long(buffer: &mut [u8]) -> Next
     }
 }
 
-fn skip(buffer: &mut [u8]) -> Reader
+fn skip(source: &mut impl Read, buffer: &mut [u8]) -> Reader
     requires { 0 < length buffer.old }
 {
     let mut turns = u64::MAX;
     while 0 < turns {
-        let end = fill(buffer, 0);
+        let end = fill(source, buffer, 0);
         if end == 0 {
             return at_start();
         }
@@ -132,15 +134,17 @@ fn skip(buffer: &mut [u8]) -> Reader
     at_start()
 }
 
-// Reads into the buffer behind what is held: where that ends now. A read without room would pass for the input's end.
-fn fill(buffer: &mut [u8], held: usize) -> usize
+// Reads into the buffer behind what is held: where that ends now. A read that fails is the input's end, and one without
+// room would pass for it.
+fn fill(source: &mut impl Read, buffer: &mut [u8], held: usize) -> usize
     requires { held < length buffer.old }
     ensures lower_bound { held ≤ result }
     ensures upper_bound { result ≤ length buffer.new }
 {
-    let got = libc::read(STDIN_FILENO, &mut buffer[held..]);
-    let n = io::count(got, &buffer[held..]);
-    held + n
+    match source.read(&mut buffer[held..]) {
+        Ok(n) => held + n,
+        Err(_) => held,
+    }
 }
 
 // Moves the bytes from `from` up to `end` to the buffer's start: how many there are.

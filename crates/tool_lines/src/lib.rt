@@ -1,5 +1,8 @@
 // Lines of the listing program's input: where one ends, and what it asks for.
-ghost use Rattle.std.specs.Prelude.{◌≡◌};
+#![tactic(auto)]
+
+ghost use Rattle.std.specs.Prelude.{◌≡◌, ◌+◌, ◌≤◌, length};
+ghost use Rattle.tool_lines.specs.Bytes.{index_of, slice};
 ghost use Rattle.tool_lines.specs.Line.{line_end, read_line};
 ghost use Rattle.tool_lines.specs.Search.{seek};
 ghost use Rattle.tool_lines.specs.Digits.{number_of};
@@ -10,7 +13,7 @@ const LINE_FEED: u8 = 10;
 const TAB: u8 = 9;
 
 // What a line asks for: a transfer of `length` bytes from or to `address`, over an endpoint with its own buffer.
-#[derive(Drop)]
+#[derive(Clone, Copy)]
 pub struct Request {
     pub incoming: bool,
     pub endpoint: u32,
@@ -21,21 +24,21 @@ pub struct Request {
     pub zlp: bool,
 }
 
-#[derive(Drop)]
+#[derive(Clone, Copy)]
 pub enum Line {
     Unreadable,
     Readable(Request),
 }
 
 // A field's number; where it has none, `fits` is clear and the value is 0.
-#[derive(Drop)]
+#[derive(Clone, Copy)]
 struct Number {
     fits: bool,
     value: u32,
 }
 
 // A number, and where the field behind its own begins.
-#[derive(Drop)]
+#[derive(Clone, Copy)]
 pub struct NumberAt {
     pub fits: bool,
     pub value: u32,
@@ -57,7 +60,22 @@ pub fn first(bytes: &[u8], from: usize, byte: u8) -> usize
     if bytes.len() < from {
         return from;
     }
-    bytes::scan::find(bytes, from, bytes.len(), byte)
+    find(bytes, from, byte)
+}
+
+// The first position of a byte from one that is not past the end, or the end where there is none.
+fn find(bytes: &[u8], from: usize, byte: u8) -> usize
+    requires { from ≤ length bytes.now }
+    ensures { result ≡ from + index_of byte (slice from (length bytes.now) bytes.now) }
+{
+    let mut i = from;
+    while i < bytes.len() {
+        if bytes[i] == byte {
+            return i;
+        }
+        i = i + 1;
+    }
+    i
 }
 
 // The number that a field's digits make up.

@@ -1,5 +1,7 @@
 // The state in which a line's transfer is begun. A number too large for its type becomes the largest, which is refused
 // as it would be.
+#![tactic(auto)]
+
 use state::{Buffer, EndpointConfig, EndpointType, Slot, State};
 use tool_lines::Request;
 

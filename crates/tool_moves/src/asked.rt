@@ -7,7 +7,7 @@ ghost use Rattle.tool_moves.specs.Lines.{asked_by, from};
 pub const MOST: u32 = 65536;
 
 // `position`: how many bytes the pieces before have moved.
-#[derive(Drop)]
+#[derive(Clone, Copy)]
 pub struct Asked {
     pub index: u8,
     pub incoming: bool,

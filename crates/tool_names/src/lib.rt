@@ -1,4 +1,6 @@
 // The names of registers and enumerated values, as ASCII bytes, for the numbers in the records of register operations.
+#![tactic(auto)]
+
 ghost use Rattle.std.specs.Prelude.{◌+◌, ◌≤◌, length};
 ghost use Rattle.ops.specs.Stores.{Stored};
 ghost use Rattle.tool_rows.specs.Bytes.{room};

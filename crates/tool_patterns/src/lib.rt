@@ -1,5 +1,7 @@
 // The bytes that a script's calls are lent (docs/REPLAY.md): the pattern that fills them, and the sum that is printed of
 // those that were copied.
+#![tactic(auto)]
+
 ghost use Rattle.std.specs.Prelude.{◌≡◌};
 ghost use Rattle.tool_patterns.specs.Patterns.{pattern_byte, filled, with_byte, sum_of};
 

@@ -1,29 +1,29 @@
 // Prints records of register operations, registers and fields by name. A line's text is put together in a buffer and
 // written at once.
+#![tactic(auto)]
+
 ghost use Rattle.std.specs.Prelude.{◌+◌, ◌≤◌, length};
 ghost use Rattle.ops.specs.Ops.{records};
 ghost use Rattle.ops.specs.Stores.{Stored};
 ghost use Rattle.tool_print.specs.Text.{NumberStored};
 
-use libc::STDOUT_FILENO;
-
-pub fn header() {
-    io::write_all(STDOUT_FILENO, b"kind\tregister\tindex\tfield\tvalue\n");
+pub fn header(rt: &impl Print) {
+    let _ = rt.write_all(b"kind\tregister\tindex\tfield\tvalue\n");
 }
 
 // The records in the first `end` numbers of a list.
-pub fn operations(list: &[u32], end: usize) {
+pub fn operations(rt: &impl Print, list: &[u32], end: usize) {
     let mut at: usize = 0;
     while at < end {
         if list.len() - at < ops::WIDTH {
             return;
         }
-        operation(list, at);
+        operation(rt, list, at);
         at = at + ops::WIDTH;
     }
 }
 
-fn operation(list: &[u32], at: usize)
+fn operation(rt: &impl Print, list: &[u32], at: usize)
     requires { at + records 1 ≤ length list.now }
 {
     let mut text = [0u8; 80];
@@ -33,7 +33,7 @@ fn operation(list: &[u32], at: usize)
     let d = field_cell(&mut text, c, list[at + 3]);
     let e = put_number(&mut text, d, list[at + 4]);
     let end = put(&mut text, e, b"\n");
-    io::write_all(STDOUT_FILENO, &text[0..end]);
+    let _ = rt.write_all(&text[0..end]);
 }
 
 fn number_cell(text: &mut [u8], at: usize, n: u32) -> usize
@@ -76,6 +76,6 @@ pub fn put(text: &mut [u8], at: usize, bytes: &[u8]) -> usize
     requires { at + length bytes.now ≤ length text.old }
     ensures { Stored text.old at bytes.now result text.new }
 {
-    let n = bytes::copy(bytes, &mut text[at..]);
+    let n = base::copies::copy(bytes, &mut text[at..]);
     at + n
 }

@@ -1,4 +1,6 @@
 // The readings of a script's lines (docs/REPLAY.md, "Interrupts by their readings").
+#![tactic(auto)]
+
 use state::{LinkFlags, LinkState, LinkStatus, Reading, Setup, TransferStatus};
 use tool_arguments::byte;
 use tool_scripts::{flag, number};

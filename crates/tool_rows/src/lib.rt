@@ -1,4 +1,6 @@
 // Tables of names: a row for each number, which has a name and then blanks.
+#![tactic(auto)]
+
 ghost use Rattle.std.specs.Prelude.{◌+◌, ◌≤◌, length};
 ghost use Rattle.ops.specs.Stores.{Stored};
 ghost use Rattle.tool_rows.specs.Bytes.{room};

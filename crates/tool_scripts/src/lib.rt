@@ -1,4 +1,6 @@
 // Lines of a script of calls (docs/REPLAY.md): which call a line asks for, and its numbers.
+#![tactic(auto)]
+
 ghost use Rattle.std.specs.Prelude.{◌≡◌, ◌≤◌, ltb, drop};
 ghost use Rattle.tool_lines.specs.Line.{fields};
 ghost use Rattle.tool_lines.specs.Fields.{rest};

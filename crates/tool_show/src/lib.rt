@@ -1,68 +1,70 @@
 // The whole state, in the lines of docs/REPLAY.md.
+#![tactic(auto)]
+
 use state::{Events, Setup, State};
 use tool_cells::{flag, number, text};
 
-pub fn state(state: State, events: Events) {
-    device(state, events.events);
-    pending(state);
-    address(state);
-    awaits(state);
-    tool_show_slots::lines(state);
+pub fn state(rt: &impl Print, state: State, events: Events) {
+    device(rt, state, events.events);
+    pending(rt, state);
+    address(rt, state);
+    awaits(rt, state);
+    tool_show_slots::lines(rt, state);
 }
 
-fn device(state: State, events: u8) {
-    text(b"device");
-    number(state.ep0_address);
-    flag(state.powered);
-    flag(state.suspended);
-    number(state.wake as u32);
-    flag(state.has_setup);
-    number(state.control_generation);
-    flag(state.in_last);
-    number(state.tx_seq as u32);
-    flag(state.has_address);
-    number(state.revision as u32);
-    flag(state.reset_seen);
-    flag(state.low_power);
-    number(events as u32);
-    text(b"\n");
+fn device(rt: &impl Print, state: State, events: u8) {
+    text(rt, b"device");
+    number(rt, state.ep0_address);
+    flag(rt, state.powered);
+    flag(rt, state.suspended);
+    number(rt, state.wake as u32);
+    flag(rt, state.has_setup);
+    number(rt, state.control_generation);
+    flag(rt, state.in_last);
+    number(rt, state.tx_seq as u32);
+    flag(rt, state.has_address);
+    number(rt, state.revision as u32);
+    flag(rt, state.reset_seen);
+    flag(rt, state.low_power);
+    number(rt, events as u32);
+    text(rt, b"\n");
 }
 
 // Of a SETUP that nobody has fetched; zeros where there is none.
-fn pending(state: State) {
-    text(b"pending");
+fn pending(rt: &impl Print, state: State) {
+    text(rt, b"pending");
     let setup = state.setup;
-    bytes(state.has_setup, setup);
-    text(b"\n");
+    bytes(rt, state.has_setup, setup);
+    text(rt, b"\n");
 }
 
-fn bytes(there: bool, setup: Setup) {
-    byte(there, setup.b0);
-    byte(there, setup.b1);
-    byte(there, setup.b2);
-    byte(there, setup.b3);
-    byte(there, setup.b4);
-    byte(there, setup.b5);
-    byte(there, setup.b6);
-    byte(there, setup.b7);
+fn bytes(rt: &impl Print, there: bool, setup: Setup) {
+    byte(rt, there, setup.b0);
+    byte(rt, there, setup.b1);
+    byte(rt, there, setup.b2);
+    byte(rt, there, setup.b3);
+    byte(rt, there, setup.b4);
+    byte(rt, there, setup.b5);
+    byte(rt, there, setup.b6);
+    byte(rt, there, setup.b7);
 }
 
-fn byte(there: bool, byte: u8) {
+fn byte(rt: &impl Print, there: bool, byte: u8) {
     if there {
-        number(byte as u32);
+        number(rt, byte as u32);
         return;
     }
-    number(0);
+    number(rt, 0);
 }
 
-fn address(state: State) {
-    text(b"address");
-    byte(state.has_address, state.address);
-    text(b"\n");
+fn address(rt: &impl Print, state: State) {
+    text(rt, b"address");
+    byte(rt, state.has_address, state.address);
+    text(rt, b"\n");
 }
 
-fn awaits(state: State) {
+fn awaits(rt: &impl Print, state: State) {
     let awaited = state.awaited;
     let next = awaited.next;
-    tool_awaits::awaits(next);
+    tool_awaits::awaits(rt, next);
 }

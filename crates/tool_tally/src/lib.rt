@@ -1,4 +1,6 @@
 // A script of calls: transfers, then a bus reset, then the power off.
+#![tactic(auto)]
+
 use state::State;
 use tool_tally_steps::{begun, enabled};
 

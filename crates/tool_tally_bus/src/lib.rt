@@ -1,4 +1,6 @@
 // The endpoints, the driver's start, power and reset: the state that each leaves.
+#![tactic(auto)]
+
 mod layout;
 
 use state::{Events, State};

@@ -1,4 +1,6 @@
 // The endpoints in use, and the transfers of endpoint 1: some are taken, one is abandoned, some stay in hand.
+#![tactic(auto)]
+
 use state::State;
 use tool_tally_steps::{abandoned, begun, enabled, reported, taken};
 

@@ -1,4 +1,6 @@
 // The transfers of all endpoints; here those of 2 and 3: some are taken, one is stalled, one disabled.
+#![tactic(auto)]
+
 use state::State;
 use tool_tally_parts::{received, sent};
 use tool_tally_steps::{begun, enabled, stalled, taken};

@@ -1,4 +1,6 @@
 // Orders and transfers, a call each: the state that it leaves.
+#![tactic(auto)]
+
 ghost use Rattle.std.specs.Prelude.{◌≡◌};
 
 use state::{Events, State};

@@ -1,11 +1,13 @@
 // The words of a script of calls (docs/REPLAY.md), and what each stands for.
+#![tactic(auto)]
+
 ghost use Rattle.std.specs.Prelude.{◌≡◌};
 ghost use Rattle.tool_lines.specs.Line.{sameb};
 ghost use Rattle.tool_words.specs.Rows.{row_name, Placed, meant_at};
 ghost use Rattle.tool_words.specs.Words.{◌taking◌, rows, meaning_of};
 
 // The calls that a script may ask for; a line that can't be read is unfit.
-#[derive(Drop)]
+#[derive(Clone, Copy)]
 pub enum Word {
     Unfit,
     Driver,
@@ -50,7 +52,7 @@ pub enum Word {
 }
 
 // What a word stands for: a call, and how many numbers it takes at most.
-#[derive(Drop)]
+#[derive(Clone, Copy)]
 pub struct Meant {
     pub call: Word,
     pub most: usize,

@@ -1,4 +1,6 @@
 // A transfer on the data endpoints 1 to 7, abandoned (reference: `run` of endpoint.rs).
+#![tactic(auto)]
+
 ghost use Rattle.std.specs.Prelude.{◌≡◌, ◌≤◌, length as list_length, []};
 ghost use Rattle.ops.specs.Ops.{records};
 ghost use Rattle.ops.specs.Wrote.{Wrote};
@@ -14,13 +16,13 @@ ghost use Rattle.regs_endpoint.specs.Endpoint.{abort_busy_ops};
 use state::{Awaited, Check, Events, Refusal, Slot, State, Wakes};
 
 // `Abandoned` has the microseconds that the endpoint is to be left alone.
-#[derive(Drop)]
+#[derive(Clone, Copy)]
 pub enum AbandonAnswer {
     Refused(Refusal),
     Abandoned(u32),
 }
 
-#[derive(Drop)]
+#[derive(Clone, Copy)]
 pub struct AbandonResult {
     pub state: State,
     pub answer: AbandonAnswer,
@@ -28,7 +30,7 @@ pub struct AbandonResult {
     pub wakes: Wakes,
 }
 
-#[derive(Drop)]
+#[derive(Clone, Copy)]
 struct Gone {
     answer: AbandonAnswer,
     slot: Slot,

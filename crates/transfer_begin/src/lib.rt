@@ -1,4 +1,6 @@
 // Transfers on the data endpoints 1 to 7, begun (reference: `run` of endpoint.rs).
+#![tactic(auto)]
+
 ghost use Rattle.std.specs.Prelude.{◌≡◌, length as list_length};
 ghost use Rattle.ops.specs.Wrote.{Wrote};
 ghost use Rattle.state.specs.Refusals.{first_refusal};
@@ -9,13 +11,13 @@ ghost use Rattle.transfer_piece.specs.Piece.{piece};
 use state::{Check, Events, Refusal, State, Wakes};
 use transfer_chain::CHAIN_PACKETS;
 
-#[derive(Drop)]
+#[derive(Clone, Copy)]
 pub enum BeginAnswer {
     Refused(Refusal),
     Begun,
 }
 
-#[derive(Drop)]
+#[derive(Clone, Copy)]
 pub struct BeginResult {
     pub state: State,
     pub answer: BeginAnswer,

@@ -1,5 +1,7 @@
 // Chains: the packets of a transfer that the controller gets at a time (reference: `chain_packets`, `queue` and
 // `data_irq` of device.rs).
+#![tactic(auto)]
+
 ghost use Rattle.std.specs.Prelude.{◌≡◌, ◌+◌, ◌≤◌, true, length, if◌then◌else◌};
 ghost use Rattle.ops.specs.Ops.{records};
 ghost use Rattle.ops.specs.Wrote.{Wrote};
@@ -11,7 +13,7 @@ use state::{Slot, Transfer};
 pub const CHAIN_PACKETS: u8 = 255;
 
 // Packets from `dma` on: those of IN send `bytes`, the last packet `last` of them, and bring the transfer to `progress`.
-#[derive(Drop)]
+#[derive(Clone, Copy)]
 pub struct Chain {
     pub dma: u32,
     pub packets: u32,
@@ -20,7 +22,7 @@ pub struct Chain {
     pub progress: u32,
 }
 
-#[derive(Drop)]
+#[derive(Clone, Copy)]
 pub struct Queued {
     pub slot: Slot,
     pub end: usize,

@@ -1,1 +1,2 @@
 // No code: specs/ has what holds of the calls on transfers.
+#![tactic(auto)]

@@ -1,4 +1,6 @@
 // What a slot is to move, tested and taken on (reference: `run` of endpoint.rs).
+#![tactic(auto)]
+
 ghost use Rattle.std.specs.Prelude.{◌≡◌};
 ghost use Rattle.state.specs.Refusals.{first_refusal};
 ghost use Rattle.transfer_piece.specs.Piece.{piece, piece_fits, begin_own, begun_slot};

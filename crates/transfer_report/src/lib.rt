@@ -1,4 +1,6 @@
 // The end of a chain of a data endpoint, as an interrupt reports it (reference: `data_irq` of device.rs).
+#![tactic(auto)]
+
 ghost use Rattle.std.specs.Prelude.{◌≡◌, ◌+◌, ◌≤◌, length};
 ghost use Rattle.ops.specs.Ops.{records};
 ghost use Rattle.ops.specs.Wrote.{Wrote};
@@ -9,7 +11,7 @@ use state::{Slot, State};
 use transfer_chain::CHAIN_PACKETS;
 use transfer_step::Followed;
 
-#[derive(Drop)]
+#[derive(Clone, Copy)]
 pub struct Reported {
     pub state: State,
     pub end: usize,

@@ -1,4 +1,6 @@
 // What a report is to its slot, and what follows (reference: `data_irq` of device.rs).
+#![tactic(auto)]
+
 ghost use Rattle.std.specs.Prelude.{◌≡◌, ◌+◌, ◌≤◌, length, false};
 ghost use Rattle.ops.specs.Ops.{records};
 ghost use Rattle.ops.specs.Wrote.{Wrote};
@@ -10,7 +12,7 @@ ghost use Rattle.transfer_step.specs.Step.{step_of, report_step, slot_after, wak
 use state::Slot;
 
 // What a report is to its slot, which has the report counted.
-#[derive(Drop)]
+#[derive(Clone, Copy)]
 pub enum Step {
     Ignored,
     GoesOn(Slot),
@@ -18,7 +20,7 @@ pub enum Step {
 }
 
 // What a report leaves of its slot, the slots to wake, and where the list ends.
-#[derive(Drop)]
+#[derive(Clone, Copy)]
 pub struct Followed {
     pub slot: Slot,
     pub wake: u16,

@@ -1,4 +1,6 @@
 // The result of a transfer on the data endpoints 1 to 7, taken (reference: `run` of endpoint.rs).
+#![tactic(auto)]
+
 ghost use Rattle.std.specs.Prelude.{◌≡◌, if◌then◌else◌, nat_lt};
 ghost use Rattle.state.specs.Refusals.{first_refusal};
 ghost use Rattle.state_call.specs.Turn.{turn_of};
@@ -8,21 +10,21 @@ ghost use Rattle.state.specs.declared.Refusal.TheVariants.{TooLong};
 
 use state::{Awaited, Check, Events, Phase, Refusal, Slot, State, Tally, Wakes};
 
-#[derive(Drop)]
+#[derive(Clone, Copy)]
 pub enum TakeAnswer {
     Refused(Refusal),
     Busy,
     Taken(u32),
 }
 
-#[derive(Drop)]
+#[derive(Clone, Copy)]
 pub struct TakeResult {
     pub state: State,
     pub answer: TakeAnswer,
     pub wakes: Wakes,
 }
 
-#[derive(Drop)]
+#[derive(Clone, Copy)]
 struct Took {
     answer: TakeAnswer,
     slot: Slot,

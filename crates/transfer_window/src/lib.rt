@@ -1,5 +1,7 @@
 // The window of OUT endpoints (reference: `out_window` and `start` of device.rs). The calls go over the slots themselves:
 // they have the state.
+#![tactic(auto)]
+
 ghost use Rattle.std.specs.Prelude.{◌≡◌, ◌+◌, ◌≤◌, not, cond, [], length};
 ghost use Rattle.ops.specs.Ops.{records};
 ghost use Rattle.ops.specs.Wrote.{Wrote};

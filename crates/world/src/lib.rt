@@ -1,4 +1,6 @@
 // What a script's calls stand on.
+#![tactic(auto)]
+
 ghost use Rattle.std.specs.Prelude.{◌≡◌};
 ghost use Rattle.driver_new.specs.New.{new_result};
 ghost use Rattle.state.specs.Fresh.{fresh_state};
@@ -6,7 +8,7 @@ ghost use Rattle.state.specs.Fresh.{fresh_state};
 use state::{Driver, Events, State};
 
 // The driver in the making, the state and the pending events.
-#[derive(Drop)]
+#[derive(Clone, Copy)]
 pub struct World {
     pub driver: Driver,
     pub state: State,
