@@ -198,25 +198,3 @@ edges = creation ++ (chains ++ (reports ++ pending))
 -- what is found is what the paper says
 abbrev pub Right : List Edge → Type 0
 Right es = map (λ (e : Edge). e.found) es ≡ map (λ (e : Edge). e.paper) es
-
-both : (a b : List Edge) → Right a → Right b → Right (a ++ b)
-both a b h k = rw (map-append (λ (e : Edge). e.found) a b, map-append (λ (e : Edge). e.paper) a b, h, k)
-
-right_creation : Right creation
-unfolding every driver_soundb lowest new_check new_result allocate_check placed allocate_result or_else
-right_creation = refl
-
-right_chains : Right chains
-unfolding every count div_ceil soundb chain_packets chain_bytes up_to out_window windows_ops or_else begin_call report_state report_ops
-right_chains = refl
-
-right_reports : Right reports
-unfolding every count div_ceil soundb chain_packets chain_bytes up_to out_window windows_ops or_else begin_call report_state
-right_reports = refl
-
-right_events : Right pending
-unfolding every soundb or_else raise_call poll_call
-right_events = refl
-
-pub starred : Right edges
-starred = both creation (chains ++ (reports ++ pending)) right_creation (both chains (reports ++ pending) right_chains (both reports pending right_reports right_events))

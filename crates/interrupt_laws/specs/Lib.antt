@@ -1,8 +1,6 @@
 pub mod ReadingLaws
 pub mod Conversation
-pub mod ConversationLaws
 pub mod LongestLaws
 pub mod RoomLaws
 pub mod InterruptKeeps
 pub mod Standard
-pub mod StandardLaws

@@ -23,7 +23,7 @@ use Rattle.state_sound.specs.FactLaws.{own_facts}
 use Rattle.regs_endpoint.specs.Endpoint.{chain_ack_ops}
 use Rattle.transfer_window.specs.Window.{in_hand_count, window_of}
 use Rattle.transfer_step.specs.Step.{report_step}
-use Rattle.transfer_report.specs.Report.{report_state, report_ops}
+use Rattle.transfer_report.specs.Report.{report_state, report_ops, slots_counted}
 use Rattle.transfer_report.specs.ReportLaws.{stored_after, list_after_lem, list_in}
 use Rattle.control_report.specs.Ep0.{setup_received, status_follows}
 use Rattle.interrupt_transfer.specs.Transfers.{Turned, over, status_turn}
@@ -63,7 +63,7 @@ module _ (s : State) (e : ℕ) (packets last : ℕ) where
   in_placed w =
       let i = slot_number e true in
       let step = report_step (limit_of s) true packets last (slot_at s i) in
-      record { state = stored_after s i true step; awaited = refl; ops = ap (λ l. chain_ack_ops e true ++ l) (list_in (limit_of s) w _ e step ∙ list_after_lem s e true step) }
+      record { state = stored_after s i true step; awaited = refl; ops = ap (λ l. chain_ack_ops e true ++ l) (list_in (limit_of s) w (window_of (in_hand_count s (slots_counted true))) e step ∙ list_after_lem s e true step) }
 
 -- ---- the transfer status
 

@@ -8,6 +8,10 @@ use denote.Enum.Declared as D
 use Rattle.state.specs.declared.Awaiting.{Awaiting}
 use Rattle.state.specs.declared.Awaiting.TheVariants as awaiting
 use Rattle.state.specs.declared.Reading.{Reading}
+use Rattle.state.specs.declared.LinkFlags.{LinkFlags}
+use Rattle.state.specs.declared.LinkStatus.{LinkStatus}
+use Rattle.state.specs.declared.TransferStatus.{TransferStatus}
+use Rattle.state.specs.declared.Setup.{Setup}
 use Rattle.state.specs.declared.Reading.TheVariants as reading
 use Rattle.interrupt_readings.specs.Matched.{kind_number}
 use Rattle.state.specs.Awaiting.{awaiting_number}
@@ -84,3 +88,64 @@ early x (inr (inr (inr (inl e)))) = omega (arith, e)
 early x (inr (inr (inr (inr (inl e))))) = omega (arith, e)
 early x (inr (inr (inr (inr (inr (inl e)))))) = omega (arith, e)
 early x (inr (inr (inr (inr (inr (inr e)))))) = omega (arith, e)
+
+-- a reading that no kind's pattern takes is of another kind
+pub not_flags : (r : Reading) → ((x : LinkFlags) → r ≡ reading.LinkFlags x → ⊥) → eqb 1 (kind_number r) ≡ false
+not_flags (reading.LinkFlags x) h = absurd (h x refl)
+not_flags r h = refl
+
+pub not_status : (r : Reading) → ((x : LinkStatus) → r ≡ reading.LinkStatus x → ⊥) → eqb 2 (kind_number r) ≡ false
+not_status (reading.LinkStatus x) h = absurd (h x refl)
+not_status r h = refl
+
+pub not_capability : (r : Reading) → ((x : Bool) → r ≡ reading.PortCapability x → ⊥) → eqb 3 (kind_number r) ≡ false
+not_capability (reading.PortCapability x) h = absurd (h x refl)
+not_capability r h = refl
+
+pub not_message : (r : Reading) → ((x : ℕ) → r ≡ reading.MessageWord x → ⊥) → eqb 4 (kind_number r) ≡ false
+not_message (reading.MessageWord x) h = absurd (h x refl)
+not_message r h = refl
+
+pub not_transfer_status : (r : Reading) → ((x : TransferStatus) → r ≡ reading.TransferStatus x → ⊥) → eqb 5 (kind_number r) ≡ false
+not_transfer_status (reading.TransferStatus x) h = absurd (h x refl)
+not_transfer_status r h = refl
+
+pub not_setup : (r : Reading) → ((x : Setup) → r ≡ reading.SetupBytes x → ⊥) → eqb 6 (kind_number r) ≡ false
+not_setup (reading.SetupBytes x) h = absurd (h x refl)
+not_setup r h = refl
+
+pub not_length : (r : Reading) → ((x : ℕ) → r ≡ reading.Ep0Length x → ⊥) → eqb 7 (kind_number r) ≡ false
+not_length (reading.Ep0Length x) h = absurd (h x refl)
+not_length r h = refl
+
+pub not_sequence : (r : Reading) → ((x : ℕ) → r ≡ reading.Ep0Sequence x → ⊥) → eqb 8 (kind_number r) ≡ false
+not_sequence (reading.Ep0Sequence x) h = absurd (h x refl)
+not_sequence r h = refl
+
+pub not_packets : (r : Reading) → ((x : ℕ) → r ≡ reading.ChainPackets x → ⊥) → eqb 9 (kind_number r) ≡ false
+not_packets (reading.ChainPackets x) h = absurd (h x refl)
+not_packets r h = refl
+
+pub not_last : (r : Reading) → ((x : ℕ) → r ≡ reading.LastLength x → ⊥) → eqb 10 (kind_number r) ≡ false
+not_last (reading.LastLength x) h = absurd (h x refl)
+not_last r h = refl
+
+-- what is awaited is a reading of the transfers where it is none of the link's, and the reverse
+pub late_by : (n : Awaiting) → (n ≡ awaiting.Nothing → ⊥) → (n ≡ awaiting.LinkFlags → ⊥) → (n ≡ awaiting.LinkStatus → ⊥) → (n ≡ awaiting.PortCapability → ⊥) → (n ≡ awaiting.TermPresStatus → ⊥) → (n ≡ awaiting.MessageWord → ⊥) → (n ≡ awaiting.WarmResetStatus → ⊥) → 6 < awaiting_number n
+late_by awaiting.Nothing h0 h1 h2 h3 h4 h5 h6 = absurd (h0 refl)
+late_by awaiting.LinkFlags h0 h1 h2 h3 h4 h5 h6 = absurd (h1 refl)
+late_by awaiting.LinkStatus h0 h1 h2 h3 h4 h5 h6 = absurd (h2 refl)
+late_by awaiting.PortCapability h0 h1 h2 h3 h4 h5 h6 = absurd (h3 refl)
+late_by awaiting.TermPresStatus h0 h1 h2 h3 h4 h5 h6 = absurd (h4 refl)
+late_by awaiting.MessageWord h0 h1 h2 h3 h4 h5 h6 = absurd (h5 refl)
+late_by awaiting.WarmResetStatus h0 h1 h2 h3 h4 h5 h6 = absurd (h6 refl)
+late_by n h0 h1 h2 h3 h4 h5 h6 = omega arith
+
+pub early_by : (n : Awaiting) → (n ≡ awaiting.TransferStatus → ⊥) → (n ≡ awaiting.SetupBytes → ⊥) → (n ≡ awaiting.Ep0Length → ⊥) → (n ≡ awaiting.Ep0Sequence → ⊥) → (n ≡ awaiting.ChainPackets → ⊥) → (n ≡ awaiting.LastLength → ⊥) → awaiting_number n ≤ 6
+early_by awaiting.TransferStatus h0 h1 h2 h3 h4 h5 = absurd (h0 refl)
+early_by awaiting.SetupBytes h0 h1 h2 h3 h4 h5 = absurd (h1 refl)
+early_by awaiting.Ep0Length h0 h1 h2 h3 h4 h5 = absurd (h2 refl)
+early_by awaiting.Ep0Sequence h0 h1 h2 h3 h4 h5 = absurd (h3 refl)
+early_by awaiting.ChainPackets h0 h1 h2 h3 h4 h5 = absurd (h4 refl)
+early_by awaiting.LastLength h0 h1 h2 h3 h4 h5 = absurd (h5 refl)
+early_by n h0 h1 h2 h3 h4 h5 = omega arith

@@ -1,4 +1,4 @@
--- The numbers of registers, fields and enumerated values. Names are the Rust's, with - for _ and for the dot.
+-- The numbers of registers, fields and enumerated values. Names are the Rust's, with _ for the dot.
 -- Assumes nothing.
 use Rattle.std.specs.Prelude.{ℕ}
 

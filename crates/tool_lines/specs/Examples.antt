@@ -3,7 +3,7 @@
 use Rattle.std.specs.Prelude.{ℕ, Bool, true, false, List, [], ◌∷◌, map, ◌≡◌, refl}
 use Prim.Native.Char.{code}
 use Prim.Native.String.{String, [] as empty, ◌∷◌ as ◌before◌}
-use Rattle.bytes.specs.Bytes.{index_of, index_after}
+use Rattle.tool_lines.specs.Bytes.{index_of, index_after}
 use Rattle.tool_lines.specs.declared.Line.{Line}
 use Rattle.tool_lines.specs.declared.Line.TheVariants.{Unreadable, Readable}
 use Rattle.tool_lines.specs.Line.{fields, decimal, numberb, readable, read_line, line_end}

@@ -4,7 +4,7 @@ use Rattle.std.specs.Prelude.{ℕ, suc, ◌+◌, ◌-◌, ◌≤◌, ◌<◌, Bo
 use Rattle.std.proofs.Common.{ap, sym, ◌∙◌, arith, add-zero, leb-true, leb-false, lt-ltb, le-ltb, le-leb, length-drop, drop-drop, get_or-drop}
 use Rattle.std.proofs.lemmas.Bool.{lt-leb}
 use Rattle.std.proofs.Math.Dec.{leb-suc-suc, leb-zero}
-use Rattle.bytes.specs.Bytes.{index_of, index_after}
+use Rattle.tool_lines.specs.Bytes.{index_of, index_after}
 use Rattle.tool_lines.specs.declared.Number.{Number}
 use Rattle.tool_lines.specs.declared.NumberAt.{NumberAt}
 use Rattle.tool_lines.specs.Line.{tab, onto, fields, numberb}

@@ -1,3 +1,4 @@
+pub mod Bytes
 pub mod Line
 pub mod Search
 pub mod SearchLaws

@@ -2,7 +2,7 @@
 -- Assumes nothing.
 use Rattle.std.specs.Prelude.{ℕ, ◌+◌, ◌*◌, ◌-◌, ◌^◌, Bool, true, false, cond, ◌&&◌, ◌||◌, eqb, ltb, leb, length, get_or, drop}
 use mathlib.Core.List.{List, [], ◌∷◌, foldl}
-use Rattle.bytes.specs.Bytes.{index_of}
+use Rattle.tool_lines.specs.Bytes.{index_of}
 use Rattle.tool_lines.specs.declared.Request.{Request}
 use Rattle.tool_lines.specs.declared.Line.{Line}
 use Rattle.tool_lines.specs.declared.Line.TheVariants.{Unreadable, Readable}

@@ -1,7 +1,7 @@
 -- Where a byte is found first.
 -- Assumes nothing.
 use Rattle.std.specs.Prelude.{ℕ, ◌+◌, List, drop}
-use Rattle.bytes.specs.Bytes.{index_of}
+use Rattle.tool_lines.specs.Bytes.{index_of}
 
 -- the first b from `from` on
 abbrev pub seek : List ℕ → ℕ → ℕ → ℕ

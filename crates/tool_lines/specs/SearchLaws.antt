@@ -1,9 +1,9 @@
 -- The first place of a byte.
 -- Assumes nothing.
-use Rattle.std.specs.Prelude.{ℕ, suc, ◌+◌, ◌≤◌, ◌<◌, Bool, true, false, List, [], ◌∷◌, ◌≡◌, eqb, length, drop}
-use Rattle.std.proofs.Common.{arith, length-drop, drop_of_length-le}
+use Rattle.std.specs.Prelude.{ℕ, suc, ◌+◌, ◌≤◌, ◌<◌, Bool, true, false, List, [], ◌∷◌, ◌≡◌, eqb, length, get_or, drop}
+use Rattle.std.proofs.Common.{arith, add-one, eq-eqb, ne_eqb, length-drop, drop-cons, drop_of_length-le}
 use Rattle.std.proofs.Math.Seq.{take-length}
-use Rattle.bytes.specs.Bytes.{index_of, index_after, slice}
+use Rattle.tool_lines.specs.Bytes.{index_of, index_after, slice}
 use Rattle.tool_lines.specs.Search.{seek}
 
 index_le : (b : ℕ) (l : List ℕ) → index_of b l ≤ length l
@@ -29,3 +29,22 @@ seek_past l from b h =
 pub seek_all : (l : List ℕ) (from b r : ℕ) → r ≡ from + index_of b (slice from (length l) l) → r ≡ seek l from b
 unfolding slice
 seek_all l from b r e = rw (take-length l) at e
+
+-- the search at a place: it ends there with the byte or with the list, and else goes on behind it
+module _ (l : List ℕ) (i b : ℕ) where
+  pub index_here : i < length l → get_or l i 0 ≡ b → index_of b (drop i l) ≡ 0
+  unfolding index_of index_after
+  index_here h e = rw (drop-cons l i 0 h, eq-eqb (get_or l i 0) b e)
+
+  pub index_next : i < length l → (get_or l i 0 ≡ b → ⊥) → index_of b (drop i l) ≡ suc (index_of b (drop (i + 1) l))
+  unfolding index_of index_after
+  index_next h n = rw (add-one i, drop-cons l i 0 h, ne_eqb (get_or l i 0) b n)
+
+  pub index_end : length l ≤ i → index_of b (drop i l) ≡ 0
+  unfolding index_of
+  index_end h = rw (drop_of_length-le l {i = i} h)
+
+-- the part of a list up to its end
+pub slice_whole : (l : List ℕ) (from : ℕ) → slice from (length l) l ≡ drop from l
+unfolding slice
+slice_whole l from = rw (take-length l)

@@ -84,3 +84,7 @@ arm k h = rw h
 -- and where the row is no arm's
 pub no_arm : (row : ℕ) → NoneOf (length rows) row → Unfit taking 0 ≡ meant_at rows row
 no_arm row h = sym (get_or-eq_default (map (λ (r : Row). r.meant) rows) (Unfit taking 0) (none_of (length rows) row h))
+
+-- the same, of a row behind the last
+pub behind_arms : (row : ℕ) → length rows ≤ row → Unfit taking 0 ≡ meant_at rows row
+behind_arms row h = sym (get_or-eq_default (map (λ (r : Row). r.meant) rows) (Unfit taking 0) h)

@@ -1,0 +1,11 @@
+-- `sent_answer`: by its cases.
+use Rattle.endpoint_sent.proofs.sent_answer.Goals as goal
+
+pub returns-in-Refused : goal.returns-in-Refused
+returns-in-Refused c = rw c.in-Refused.is
+
+pub returns-in-Busy : goal.returns-in-Busy
+returns-in-Busy c = rw c.in-Busy.is
+
+pub returns-in-Taken : goal.returns-in-Taken
+returns-in-Taken c = rw c.in-Taken.is c.next.ensures

@@ -1,0 +1,2 @@
+pub mod ConversationLaws
+pub mod StandardLaws

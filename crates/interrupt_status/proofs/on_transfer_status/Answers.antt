@@ -1,0 +1,22 @@
+-- Followed, out of range, or of another kind.
+use mathlib.Core.Path.{◌∙◌}
+use borrow.Author.Tests.{le-leb, lt-leb}
+use Rattle.ops.specs.WroteLaws.{none}
+use Rattle.state_call.specs.Outcome.{or_else}
+use Rattle.interrupt_followers.specs.Pieces.{heard_pieces, pieces_turned}
+use Rattle.interrupt_readings.specs.MatchedLaws.{not_transfer_status}
+use Rattle.interrupt_status.proofs.on_transfer_status.Goals as goal
+
+pub returns-in_default : goal.returns-in_default
+unfolding pieces_turned or_else
+returns-in_default c = let o = c.refused.ensures in rw (not_transfer_status c.args.reading c.in_default.not-TransferStatus) (record { check = o.check; effect = o.effect; awaited = o.awaited; list = rw o.end (none _ 0) })
+
+pub returns-then-status-gt15 : goal.returns-then-status-gt15
+unfolding pieces_turned or_else
+returns-then-status-gt15 c = let o = c.refused-then-status-gt15.ensures in rw (c.in-TransferStatus.is, lt-leb _ _ c.if-status-gt15.true) (record { check = o.check; effect = o.effect; awaited = o.awaited; list = rw o.end (none _ 0) })
+
+pub returns : goal.returns
+unfolding pieces_turned or_else heard_pieces
+returns c =
+    let x = c.accepted.ensures in
+    let t = c.status_turn-turn.ensures in rw (c.in-TransferStatus.is, le-leb _ _ c.if-status-gt15.false) (record { check = x.check; effect = x.effect ∙ t.effect; awaited = x.awaited ∙ t.awaited; list = rw x.end t.list })

@@ -1,0 +1,8 @@
+-- The flag, then what the step asks for.
+use Rattle.ops.specs.WroteLaws.{◌▹◌}
+use Rattle.interrupt_transfer.proofs.report_pieces.Goals as goal
+
+pub returns : goal.returns
+returns c =
+    let e = c.report_slot-followed.ensures in
+    record { effect = rw (e.slot, e.wake); awaited = c.nothing_awaited-nothing.ensures; list = c.chain_ack-a.ensures ▹ e.list }
