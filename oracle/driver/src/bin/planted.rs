@@ -69,6 +69,9 @@ fn copy(from: &Path, to: &Path) {
     for entry in fs::read_dir(from).unwrap() {
         let entry = entry.unwrap();
         let target = to.join(entry.file_name());
+        if entry.file_name() == "out" {
+            continue; // what the kit has built
+        }
         if entry.path().is_dir() {
             copy(&entry.path(), &target);
         } else {
@@ -93,17 +96,26 @@ fn output(program: &str, arguments: &[String], input: Vec<u8>) -> Vec<u8> {
     output.stdout
 }
 
-/// What became of the compiled program: its output is right, or wrong, or it didn't run.
-fn verdict(root: &Path) -> &'static str {
-    let tried = Command::new("rt").args(["try", PROGRAM]).current_dir(root).output().expect("rt can't be run");
-    let said = String::from_utf8_lossy(&tried.stdout).into_owned() + &String::from_utf8_lossy(&tried.stderr);
-    let of_the_program = |start: &str| said.lines().any(|line| line.starts_with(start));
-    if of_the_program("ok: the native program at -O3") {
-        "missed"
-    } else if of_the_program("FAIL: the native program at -O3") {
-        "found"
-    } else {
-        "didn't run"
+/// What became of the compiled program: its output is right, or wrong, or it didn't run. `rt try` ends with 0 where the
+/// program did, and with 4 to 6 where it faulted, its two runs differ, or it gave no answer.
+fn verdict(root: &Path, [stdin, stdout]: &[Vec<u8>; 2]) -> &'static str {
+    let mut child = Command::new("rt")
+        .arg("try")
+        .current_dir(root.join("crates").join(PROGRAM))
+        .stdin(Stdio::piped())
+        .stdout(Stdio::piped())
+        .stderr(Stdio::null())
+        .spawn()
+        .expect("rt can't be run");
+    let mut pipe = child.stdin.take().unwrap();
+    let input = stdin.clone();
+    let writer = thread::spawn(move || pipe.write_all(&input));
+    let output = child.wait_with_output().unwrap();
+    let _ = writer.join();
+    match output.status.code() {
+        Some(0) if output.stdout == *stdout => "missed",
+        Some(0) | Some(4..=6) => "found",
+        _ => "didn't run",
     }
 }
 
@@ -122,12 +134,7 @@ fn main() -> ExitCode {
     let own = place.join("crates").join(PROGRAM);
     let stored = ["stdin", "stdout"].map(|name| fs::read(own.join(name)).unwrap());
     let random = [script, answers];
-    let set = |[stdin, stdout]: &[Vec<u8>; 2]| {
-        fs::write(own.join("stdin"), stdin).unwrap();
-        fs::write(own.join("stdout"), stdout).unwrap();
-    };
-    set(&random);
-    assert_eq!(verdict(&place), "missed", "without a mistake the program has to be right");
+    assert_eq!(verdict(&place, &random), "missed", "without a mistake the program has to be right");
     let mut counts: BTreeMap<&str, usize> = BTreeMap::new();
     let edits = reached(root, PROGRAM).into_iter().flat_map(|name| edits(root, &name));
     for edit in edits.filter(|edit| wanted.is_empty() || wanted.iter().any(|part| edit.name.contains(&part[..]))) {
@@ -135,13 +142,9 @@ fn main() -> ExitCode {
         let right = fs::read_to_string(&file).unwrap();
         assert_eq!(right.matches(&edit.old).count(), 1, "{}", edit.name);
         fs::write(&file, right.replacen(&edit.old, &edit.new, 1)).unwrap();
-        let mut verdict = self::verdict(&place);
-        if verdict == "missed" {
-            set(&stored);
-            if self::verdict(&place) == "found" {
-                verdict = "found by the stored script";
-            }
-            set(&random);
+        let mut verdict = self::verdict(&place, &random);
+        if verdict == "missed" && self::verdict(&place, &stored) == "found" {
+            verdict = "found by the stored script";
         }
         fs::write(&file, right).unwrap();
         println!("{verdict}\t{}", edit.name);
