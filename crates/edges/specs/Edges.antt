@@ -1,10 +1,8 @@
 -- Document 01's starred edges: each row has what the definitions give, and what the paper says.
 -- Assumes nothing.
-use Rattle.std.specs.Prelude.{ℕ, ◌^◌, Bool, true, false, cond, List, [], ◌∷◌, ◌++◌, map, ◌≡◌, refl, eqb}
-use Rattle.std.proofs.lemmas.List.{map-append}
+use Rattle.std.specs.Prelude.{ℕ, ◌^◌, Bool, true, false, cond, List, [], ◌∷◌, ◌++◌, map, ◌≡◌, eqb}
 use Rattle.ops.specs.Numbers.{tx_chain_exp_nump, tx_chain_len}
 use Rattle.ops.specs.Ops.{Op, write, modify, modify_if_differs, wait, clear_bits, Setting, ◌≔◌, list_numbers}
-use Rattle.ops.specs.Sequence.{up_to}
 use Rattle.state.specs.declared.Phase.TheVariants.{Idle}
 use Rattle.state.specs.declared.Slot.{Slot}
 use Rattle.state.specs.declared.State.{State}
@@ -17,16 +15,9 @@ use Rattle.state.specs.declared.EndpointType.TheVariants.{Bulk, Interrupt}
 use Rattle.state.specs.declared.EndpointRequest.{EndpointRequest}
 use Rattle.state.specs.declared.Driver.{Driver}
 use Rattle.state.specs.Refusals.{first_refusal}
-use Rattle.base.specs.Each.{every, count}
-use Rattle.base.specs.Ceil.{div_ceil}
 use Rattle.state_events.specs.Bytes.{suspend, resume}
-use Rattle.state_sound.specs.Sound.{driver_soundb, soundb}
-use Rattle.state_call.specs.Outcome.{or_else}
-use Rattle.driver_new.specs.New.{new_check, new_result, new_number}
-use Rattle.driver_allocate.specs.Rules.{lowest}
-use Rattle.driver_allocate.specs.Allocate.{allocate_check, placed, allocate_result, allocate_numbers}
-use Rattle.transfer_chain.specs.Chains.{chain_packets, chain_bytes}
-use Rattle.transfer_window.specs.Window.{out_window, windows_ops}
+use Rattle.driver_new.specs.New.{new_result, new_number}
+use Rattle.driver_allocate.specs.Allocate.{allocate_result, allocate_numbers}
 use Rattle.transfer_begin.specs.Begin.{begin_call}
 use Rattle.transfer_piece.specs.Piece.{Piece, piece}
 use Rattle.transfer_report.specs.Report.{report_state, report_ops}
