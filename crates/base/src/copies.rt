@@ -6,11 +6,7 @@ pub fn copy(from: &[u8], to: &mut [u8]) -> usize
     ensures count { result ≡ least (length from.now) (length to.old) }
     ensures stored { to.new ≡ take result from.now ++ drop result to.old }
 {
-    let count = if from.len() < to.len() {
-        from.len()
-    } else {
-        to.len()
-    };
+    let count = from.len().min(to.len());
     to[..count].copy_from_slice(&from[..count]);
     count
 }

@@ -9,20 +9,20 @@ pub mod copies;
 pub fn min(a: u32, b: u32) -> u32
     ensures { result ≡ least a b }
 {
-    if a < b { a } else { b }
+    a.min(b)
 }
 
 pub fn max(a: u32, b: u32) -> u32
     ensures { result ≡ greatest a b }
 {
-    if a < b { b } else { a }
+    a.max(b)
 }
 
 // a - b, and 0 where b is more.
 pub fn saturating_sub(a: u32, b: u32) -> u32
     ensures { result ≡ a - b }
 {
-    if b < a { a - b } else { 0 }
+    a.saturating_sub(b)
 }
 
 // n / m, rounded up; 0 where m is. One division.

@@ -1,18 +1,18 @@
 // What an order does on one endpoint (reference: `set_endpoint_stalled` and `endpoint_set_enabled` of device.rs).
 #![tactic(auto)]
 
-ghost use Rattle.state_call.specs.Turn.{admitted_of};
-ghost use Rattle.bus_endpoint.specs.Endpoint.{obeyed_ops, obeyed_at};
-ghost use Rattle.state.specs.Refusals.{first_refusal};
-ghost use Rattle.std.specs.Prelude.{[], ◌≡◌, ◌≤◌, length};
-ghost use Rattle.ops.specs.Ops.{records};
+ghost use Rattle.std.specs.Prelude.{[], ◌≡◌, ◌≤◌, Ok, length};
+ghost use Rattle.ops.specs.Ops.{records, flat, list_numbers};
 ghost use Rattle.ops.specs.Wrote.{Wrote};
-ghost use Rattle.bus_endpoint.specs.Endpoint.{isochronous, wanted, ordered_slot, ordered_ops, order_wakes, made_slot, made_ops};
-ghost use Rattle.bus_endpoint.specs.declared.OrderAnswer.TheVariants.{Ordered};
-ghost use Rattle.ops.specs.Ops.{flat, list_numbers};
+ghost use Rattle.state.specs.Refusals.{first_refusal};
+ghost use Rattle.state_call.specs.Turn.{admitted_of};
+ghost use Rattle.bus_endpoint.specs.Endpoint.{isochronous_of, wanted, fits, ordered_slot, ordered_ops, order_wakes, made_slot, made_ops, obeyed_ops, obeyed_at};
 ghost use Rattle.bus_endpoint.specs.declared.Order.TheVariants.{Stall, Enable};
 
-use state::{Awaited, Check, EndpointType, Refusal, Slot, Wakes};
+use state::{Awaited, EndpointAddress, EndpointConfig, EndpointType, Refusal, Slot, Wakes};
+use state_call::admit;
+use state_slots::waking::{no_wakes, wake_slot};
+use state_slots::{forget, is_busy, is_data_endpoint, reset, slot_number};
 
 // What can be asked of an endpoint: to answer STALL or no longer, to be on or off.
 #[derive(Clone, Copy)]
@@ -21,50 +21,36 @@ pub enum Order {
     Enable(bool),
 }
 
-#[derive(Clone, Copy)]
-pub enum OrderAnswer {
-    Refused(Refusal),
-    Ordered,
-}
-
+// What an order says of a slot, and leaves of it.
 #[derive(Clone, Copy)]
 pub struct Obeyed {
-    pub answer: OrderAnswer,
+    pub answer: Result<(), Refusal>,
     pub slot: Slot,
     pub end: usize,
     pub wakes: Wakes,
 }
 
-fn is_isochronous(ep_type: EndpointType) -> bool
-    ensures { result ≡ isochronous ep_type }
+fn is_isochronous(config: Option<EndpointConfig>) -> bool
+    ensures { result ≡ isochronous_of config }
 {
-    match ep_type {
-        EndpointType::Control => false,
-        EndpointType::Isochronous => true,
-        EndpointType::Bulk => false,
-        EndpointType::Interrupt => false,
-    }
+    config.is_some_and(|config| config.ep_type == EndpointType::Isochronous)
 }
 
-fn wakes_of(index: u8, incoming: bool) -> Wakes
-    ensures { result ≡ order_wakes index incoming }
+fn wakes_of(endpoint: EndpointAddress) -> Wakes
+    ensures { result ≡ order_wakes endpoint.index endpoint.incoming }
 {
-    let there = state_slots::is_data_endpoint(index);
-    let i = state_slots::slot_number(index, incoming);
-    if there {
-        return state_slots::waking::wake_slot(i);
+    if is_data_endpoint(endpoint.index) {
+        return wake_slot(slot_number(endpoint));
     }
-    state_slots::waking::no_wakes()
+    no_wakes()
 }
 
 // Ends the chain of a busy transfer, then has the endpoint answer STALL or no longer.
-fn stall_ops(ops: &mut [u32], index: u32, incoming: bool, x: Slot, stalled: bool) -> usize
+fn stall_ops(ops: &mut [u32], index: u32, incoming: bool, slot: Slot, stalled: bool) -> usize
     requires { records 7 ≤ length ops.old }
-    ensures { Wrote ops.old 0 (ordered_ops (Stall stalled) index incoming x) result ops.new }
+    ensures { Wrote ops.old 0 (ordered_ops (Stall stalled) index incoming slot) result ops.new }
 {
-    let phase = x.phase;
-    let busy = state_slots::is_busy(phase);
-    let a = regs_endpoint::abort_busy(ops, 0, index, incoming, busy);
+    let a = regs_endpoint::abort_busy(ops, 0, index, incoming, is_busy(slot.phase));
     if stalled {
         return regs_endpoint::halt(ops, a, index, incoming);
     }
@@ -72,19 +58,37 @@ fn stall_ops(ops: &mut [u32], index: u32, incoming: bool, x: Slot, stalled: bool
 }
 
 // Off, then set up anew and on, or cleared.
-fn switch_ops(ops: &mut [u32], index: u32, incoming: bool, x: Slot, enabled: bool) -> usize
+fn switch_ops(ops: &mut [u32], index: u32, incoming: bool, slot: Slot, enabled: bool) -> usize
     requires { records 10 ≤ length ops.old }
-    ensures { Wrote ops.old 0 (ordered_ops (Enable enabled) index incoming x) result ops.new }
+    ensures { Wrote ops.old 0 (ordered_ops (Enable enabled) index incoming slot) result ops.new }
 {
-    let config = x.config;
-    let ep_type = config.ep_type;
-    let iso = is_isochronous(ep_type);
+    let iso = is_isochronous(slot.config);
     let a = regs_endpoint::set_enabled(ops, 0, index, incoming, false);
     if enabled {
         let b = regs_endpoint::configure(ops, a, index, incoming, iso);
         return regs_endpoint::set_enabled(ops, b, index, incoming, true);
     }
     regs_endpoint::clear(ops, a, index, incoming)
+}
+
+fn ordered_ops(ops: &mut [u32], endpoint: EndpointAddress, slot: Slot, order: Order) -> usize
+    requires { list_numbers ≤ length ops.old }
+    ensures { Wrote ops.old 0 (ordered_ops order endpoint.index endpoint.incoming slot) result ops.new }
+{
+    let index = endpoint.index as u32;
+    match order {
+        Order::Stall(stalled) => stall_ops(ops, index, endpoint.incoming, slot, stalled),
+        Order::Enable(enabled) => switch_ops(ops, index, endpoint.incoming, slot, enabled),
+    }
+}
+
+fn ordered_slot(order: Order, slot: Slot) -> Slot
+    ensures { result ≡ ordered_slot order slot }
+{
+    match order {
+        Order::Stall(stalled) => forget(slot, true, slot.enabled, stalled),
+        Order::Enable(enabled) => reset(slot, true, enabled),
+    }
 }
 
 // A stall order wants an enabled endpoint.
@@ -97,49 +101,41 @@ fn is_wanted(order: Order, enabled: bool) -> bool
     }
 }
 
-fn ordered_slot(order: Order, x: Slot) -> Slot
-    ensures { result ≡ ordered_slot order x }
+// Whether an order reaches the endpoint.
+fn fits(powered: bool, index: u8, order: Order, slot: Slot) -> bool
+    ensures { result ≡ fits powered index order slot }
 {
-    match order {
-        Order::Stall(stalled) => state_slots::forget(x, true, x.enabled, stalled),
-        Order::Enable(enabled) => state_slots::reset(x, true, enabled),
-    }
-}
-
-fn ordered_ops(ops: &mut [u32], index: u32, incoming: bool, x: Slot, order: Order) -> usize
-    requires { list_numbers ≤ length ops.old }
-    ensures { Wrote ops.old 0 (ordered_ops order index incoming x) result ops.new }
-{
-    match order {
-        Order::Stall(stalled) => stall_ops(ops, index, incoming, x, stalled),
-        Order::Enable(enabled) => switch_ops(ops, index, incoming, x, enabled),
-    }
+    let there = is_data_endpoint(index);
+    let wanted = is_wanted(order, slot.enabled);
+    there & (powered & slot.config.is_some()) & wanted
 }
 
 // An order that isn't refused.
-fn make(ops: &mut [u32], powered: bool, index: u8, incoming: bool, order: Order, x: Slot) -> Obeyed
+fn make(
+    ops: &mut [u32],
+    powered: bool,
+    endpoint: EndpointAddress,
+    order: Order,
+    slot: Slot,
+) -> Obeyed
     requires { list_numbers ≤ length ops.old }
-    ensures result { result ≡ record { answer = Ordered; slot = made_slot powered index order x; end = length (flat (made_ops powered index incoming order x)); wakes = order_wakes index incoming } }
-    ensures list { Wrote ops.old 0 (made_ops powered index incoming order x) result.end ops.new }
+    ensures result { result ≡ record { answer = Ok tt; slot = made_slot powered endpoint.index order slot; end = length (flat (made_ops powered endpoint.index endpoint.incoming order slot)); wakes = order_wakes endpoint.index endpoint.incoming } }
+    ensures list { Wrote ops.old 0 (made_ops powered endpoint.index endpoint.incoming order slot) result.end ops.new }
 {
-    let wakes = wakes_of(index, incoming);
-    let there = state_slots::is_data_endpoint(index);
-    let wanted = is_wanted(order, x.enabled);
-    if there & (powered & x.configured) & wanted {
-        let end = ordered_ops(ops, index as u32, incoming, x, order);
-        let y = ordered_slot(order, x);
+    let wakes = wakes_of(endpoint);
+    if fits(powered, endpoint.index, order, slot) {
         return Obeyed {
-            answer: OrderAnswer::Ordered,
-            slot: y,
-            end: end,
-            wakes: wakes,
+            answer: Ok(()),
+            slot: ordered_slot(order, slot),
+            end: ordered_ops(ops, endpoint, slot, order),
+            wakes,
         };
     }
     Obeyed {
-        answer: OrderAnswer::Ordered,
-        slot: x,
+        answer: Ok(()),
+        slot,
         end: 0,
-        wakes: wakes, // also where nothing is done
+        wakes, // also where nothing is done
     }
 }
 
@@ -149,25 +145,20 @@ pub fn obey(
     good: bool,
     awaited: Awaited,
     powered: bool,
-    index: u8,
-    incoming: bool,
+    endpoint: EndpointAddress,
     order: Order,
-    x: Slot,
+    slot: Slot,
 ) -> Obeyed
-    ensures result { result ≡ obeyed_at (first_refusal (admitted_of (length ops.old) good awaited.next [])) powered index incoming order x }
-    ensures list { Wrote ops.old 0 (obeyed_ops (first_refusal (admitted_of (length ops.old) good awaited.next [])) powered index incoming order x) result.end ops.new }
+    ensures result { result ≡ obeyed_at (first_refusal (admitted_of (length ops.old) good awaited.next [])) powered endpoint.index endpoint.incoming order slot }
+    ensures list { Wrote ops.old 0 (obeyed_ops (first_refusal (admitted_of (length ops.old) good awaited.next [])) powered endpoint.index endpoint.incoming order slot) result.end ops.new }
 {
-    let check = state_call::admit(ops.len(), good, awaited, Check::Fits);
-    match check {
-        Check::Fits => make(ops, powered, index, incoming, order, x),
-        Check::Refused(refusal) => {
-            let wakes = state_slots::waking::no_wakes();
-            Obeyed {
-                answer: OrderAnswer::Refused(refusal),
-                slot: x,
-                end: 0,
-                wakes: wakes,
-            }
-        }
+    match admit(ops.len(), good, awaited) {
+        Ok(()) => make(ops, powered, endpoint, order, slot),
+        Err(refusal) => Obeyed {
+            answer: Err(refusal),
+            slot,
+            end: 0,
+            wakes: no_wakes(),
+        },
     }
 }

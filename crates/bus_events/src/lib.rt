@@ -5,99 +5,76 @@
 ghost use Rattle.std.specs.Prelude.{◌≡◌};
 ghost use Rattle.state.specs.Numbers.{check_number};
 ghost use Rattle.state.specs.Refusals.{first_refusal};
-ghost use Rattle.bus_events.specs.Raise.{raise_conditions, raise_call, raise_number};
-ghost use Rattle.bus_events.specs.Poll.{poll_answer, poll_call, poll_numbers, poll_says};
+ghost use Rattle.state_call.specs.Turn.{turn_of};
+ghost use Rattle.bus_events.specs.Raise.{raise_own, raise_conditions, raise_call};
+ghost use Rattle.bus_events.specs.Poll.{poll_call, poll_numbers, poll_says};
 
-use state::{Check, Events, Refusal, State, Wakes};
-use state_events::{Event, Pending};
+use state::{Awaited, Events, Refusal, State, Wakes};
+use state_call::turn_of;
+use state_events::{Event, next_pending, raise_byte, without};
+use state_slots::waking::no_wakes;
+use state_sound::sound;
 
+// What a call on the events says, and leaves of them.
 #[derive(Clone, Copy)]
-pub enum RaiseAnswer {
-    Refused(Refusal),
-    Raised,
-}
-
-#[derive(Clone, Copy)]
-pub struct RaiseResult {
-    pub answer: RaiseAnswer,
+pub struct Pended<A> {
+    pub answer: Result<A, Refusal>,
     pub events: Events,
     pub wakes: Wakes,
 }
 
-#[derive(Clone, Copy)]
-pub enum PollAnswer {
-    Refused(Refusal),
-    Nothing,
-    Event(Event),
+fn raise_check(good: bool, awaited: Awaited, event: u8) -> Result<(), Refusal>
+    ensures { result ≡ first_refusal (turn_of good awaited.next (raise_own event)) }
+{
+    turn_of(good, awaited)?;
+    Event::try_from(event)?;
+    Ok(())
 }
 
-#[derive(Clone, Copy)]
-pub struct PollResult {
-    pub answer: PollAnswer,
-    pub events: Events,
-    pub wakes: Wakes,
-}
-
-pub fn raise(state: State, events: Events, event: u8) -> RaiseResult
+pub fn raise(state: State, events: Events, event: u8) -> Pended<()>
     ensures answer { result.answer ≡ (raise_call state events event).answer }
     ensures events { result.events ≡ (raise_call state events event).events }
     ensures wakes { result.wakes ≡ (raise_call state events event).wakes }
-    ensures number { raise_number result.answer ≡ check_number (first_refusal (raise_conditions state events event)) }
+    ensures number { check_number result.answer ≡ check_number (first_refusal (raise_conditions state events event)) }
 {
-    let good = state_sound::sound(state, events);
-    let awaited = state.awaited;
-    let known = state_events::is_event(event);
-    let further = state::refusals::refuse_if(!known, Refusal::OutOfRange, Check::Fits);
-    let check = state_call::turn_of(good, awaited, further);
-    let wakes = state_slots::waking::no_wakes();
-    if let Check::Refused(refusal) = check {
-        return RaiseResult {
-            answer: RaiseAnswer::Refused(refusal),
-            events: events,
-            wakes: wakes,
+    let good = sound(state, events);
+    let check = raise_check(good, state.awaited, event);
+    let wakes = no_wakes();
+    if let Err(refusal) = check {
+        return Pended {
+            answer: Err(refusal),
+            events,
+            wakes,
         };
     }
-    let after = state_events::raise_byte(events, event);
-    RaiseResult {
-        answer: RaiseAnswer::Raised,
-        events: after,
-        wakes: wakes,
-    }
-}
-
-fn poll_answer(pending: Pending) -> PollAnswer
-    ensures { result ≡ poll_answer pending }
-{
-    match pending {
-        Pending::Nothing => PollAnswer::Nothing,
-        Pending::Event(event) => PollAnswer::Event(event),
+    Pended {
+        answer: Ok(()),
+        events: raise_byte(events, event),
+        wakes,
     }
 }
 
 // The pending event of highest precedence, which is cleared.
-pub fn poll(state: State, events: Events) -> PollResult
+pub fn poll(state: State, events: Events) -> Pended<Option<Event>>
     ensures answer { result.answer ≡ (poll_call state events).answer }
     ensures events { result.events ≡ (poll_call state events).events }
     ensures wakes { result.wakes ≡ (poll_call state events).wakes }
     ensures numbers { poll_numbers result.answer ≡ poll_says state events }
 {
-    let good = state_sound::sound(state, events);
-    let awaited = state.awaited;
-    let check = state_call::turn_of(good, awaited, Check::Fits);
-    let wakes = state_slots::waking::no_wakes();
-    if let Check::Refused(refusal) = check {
-        return PollResult {
-            answer: PollAnswer::Refused(refusal),
-            events: events,
-            wakes: wakes,
+    let good = sound(state, events);
+    let check = turn_of(good, state.awaited);
+    let wakes = no_wakes();
+    if let Err(refusal) = check {
+        return Pended {
+            answer: Err(refusal),
+            events,
+            wakes,
         };
     }
-    let pending = state_events::next_pending(events);
-    let left = state_events::without(events, pending);
-    let answer = poll_answer(pending);
-    PollResult {
-        answer: answer,
-        events: left,
-        wakes: wakes,
+    let pending = next_pending(events);
+    Pended {
+        answer: Ok(pending),
+        events: without(events, pending),
+        wakes,
     }
 }

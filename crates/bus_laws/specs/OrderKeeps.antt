@@ -1,33 +1,32 @@
 -- Orders keep the state sound, and the account of every data slot. Queries change nothing.
 -- Assumes nothing.
-use Rattle.std.specs.Prelude.{ℕ, Bool, true, false, ◌&&◌, cond, ◌≡◌, refl}
+use Rattle.std.specs.Prelude.{ℕ, Bool, true, false, ◌&&◌, cond, ◌≡◌, refl, Err}
 use Rattle.std.proofs.Common.{sym, ◌∙◌, le-ltb}
 use Rattle.base.specs.EachLaws.{and_left, and_right, true_not_false}
 use Rattle.state.specs.declared.Slot.{Slot}
 use Rattle.state.specs.declared.State.{State}
 use Rattle.state.specs.declared.Events.{Events}
 use Rattle.state.specs.Fresh.{slot_at}
-use Rattle.state_slots.specs.Slots.{idleb, data_endpoint, slot_number, slot_of}
+use Rattle.state_slots.specs.Slots.{idleb, data_endpoint, slot_number, slot_of, configured}
 use Rattle.state_slots.specs.Tally.{KeepsAccount}
 use Rattle.state_laws.specs.TallyLaws.{forgotten_keeps, unmoved}
 use Rattle.state_slots.specs.StoredLaws.{stored_slot}
 use Rattle.state_sound.specs.Sound.{soundb, slotb}
-use Rattle.state_sound.specs.FactLaws.{SlotFacts, slot_facts, slot_sound, idled_sound, one_slot_kept}
+use Rattle.state_sound.proofs.FactLaws.{SlotFacts, slot_facts, slot_sound, idled_sound, one_slot_kept}
 use Rattle.state_call.specs.OutcomeLaws.{keeps}
 use Rattle.state_laws.specs.SlotLaws.{slot_range}
 use Rattle.bus_endpoint.specs.declared.Order.{Order}
 use Rattle.bus_endpoint.specs.declared.Order.TheVariants.{Stall, Enable}
-use Rattle.bus_endpoint.specs.declared.OrderAnswer.TheVariants as order
 use Rattle.bus_order.specs.Order.{order_conditions, order_call}
 use Rattle.bus_endpoint.specs.Endpoint.{wanted, fits, ordered_slot, made_slot}
 
 -- an endpoint that an order reaches is configured
-fits_configured : (powered : Bool) (e : ℕ) (o : Order) (x : Slot) → fits powered e o x ≡ true → x.configured ≡ true
+fits_configured : (powered : Bool) (e : ℕ) (o : Order) (x : Slot) → fits powered e o x ≡ true → configured x.config ≡ true
 fits_configured powered e o x h =
-    and_right powered x.configured (and_right (data_endpoint e) (powered && x.configured) (and_left (data_endpoint e && (powered && x.configured)) (wanted o x.enabled) h))
+    and_right powered (configured x.config) (and_right (data_endpoint e) (powered && configured x.config) (and_left (data_endpoint e && (powered && configured x.config)) (wanted o x.enabled) h))
 
 -- the slot behind an order is sound
-ordered_sound : (p : Bool) (i : ℕ) (o : Order) (x : Slot) → x.configured ≡ true → slotb p i x ≡ true → slotb p i (ordered_slot o x) ≡ true
+ordered_sound : (p : Bool) (i : ℕ) (o : Order) (x : Slot) → configured x.config ≡ true → slotb p i x ≡ true → slotb p i (ordered_slot o x) ≡ true
 ordered_sound p i (Stall stalled) x c h = idled_sound p p i x x.enabled stalled _ h (λ d f q. c)
 ordered_sound p i (Enable enabled) x c h = idled_sound p p i x enabled false _ h (λ d f q. c)
 
@@ -55,7 +54,7 @@ pub order_keeps_sound : (room : ℕ) (s : State) (v : Events) (e : ℕ) (incomin
     → soundb (order_call room s v e incoming o).state (order_call room s v e incoming o).events ≡ true
 unfolding order_call
 order_keeps_sound room s v e incoming o h =
-    keeps (λ t u. soundb t u ≡ true) order.Refused (order_conditions room s v) s v _ h
+    keeps (λ t u. soundb t u ≡ true) Err (order_conditions room s v) s v _ h
     (λ n. one_slot_kept s v (slot_number e incoming) (made_slot s.powered e o (slot_of s e incoming)) h (made_sound s.powered (slot_number e incoming) e o (slot_of s e incoming)))
 
 -- An order leaves begun as it is and counts what it cuts, on every slot.
@@ -63,7 +62,7 @@ pub order_keeps_account : (room : ℕ) (s : State) (v : Events) (e : ℕ) (incom
     → KeepsAccount (slot_at s i) (slot_at (order_call room s v e incoming o).state i)
 unfolding order_call
 order_keeps_account room s v e incoming o i =
-    keeps (λ t u. KeepsAccount (slot_at s i) (slot_at t i)) order.Refused (order_conditions room s v) s v _ (unmoved (slot_at s i))
+    keeps (λ t u. KeepsAccount (slot_at s i) (slot_at t i)) Err (order_conditions room s v) s v _ (unmoved (slot_at s i))
     (λ n. stored_slot (λ k y. KeepsAccount (slot_at s k) y) s (slot_number e incoming) (made_slot s.powered e o (slot_of s e incoming)) (made_account s.powered e o (slot_of s e incoming)) i (unmoved (slot_at s i)))
 
 -- An order that reaches no endpoint finds nothing in hand there.

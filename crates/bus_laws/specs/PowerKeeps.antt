@@ -1,6 +1,6 @@
 -- Resets and power changes keep the state sound and the account of every data slot, and cut what the slots have in hand.
 -- Assumes nothing.
-use Rattle.std.specs.Prelude.{ℕ, ◌≤◌, ◌<◌, Bool, true, false, not, cond, ◌≡◌, refl, leb, ltb, get_or}
+use Rattle.std.specs.Prelude.{ℕ, ◌≤◌, ◌<◌, Bool, true, false, not, cond, ◌≡◌, refl, leb, ltb, get_or, Err}
 use Rattle.std.proofs.Math.Bool.{or-true}
 use Rattle.std.proofs.Common.{sym, ◌∙◌, le-leb}
 use Rattle.base.specs.Each.{change}
@@ -14,12 +14,11 @@ use Rattle.state_slots.specs.Slots.{reset_slot, off_slot}
 use Rattle.state_slots.specs.Tally.{KeepsAccount}
 use Rattle.state_laws.specs.TallyLaws.{forgotten_keeps, unmoved}
 use Rattle.state_sound.specs.Sound.{soundb, slotb}
-use Rattle.state_sound.specs.FactLaws.{slot_sound, own_facts, own_is, sound_is, idled_sound, fresh_slot_sound}
+use Rattle.state_sound.proofs.FactLaws.{slot_sound, own_facts, own_is, sound_is, idled_sound, fresh_slot_sound}
 use Rattle.state_call.specs.OutcomeLaws.{keeps, passed}
 use Rattle.state_laws.specs.SlotLaws.{Cut, forgotten_cut, fresh_cut}
 use Rattle.bus_reset.specs.Reset.{ep0_slot, control_reset, bus_reset_state}
 use Rattle.bus_reset.specs.ResetLaws.{slot_reset, reset_both}
-use Rattle.bus_power_off.specs.declared.PowerAnswer.TheVariants as power
 use Rattle.bus_power_off.specs.PowerOff.{off_conditions, off_state, power_off_call}
 use Rattle.bus_power_on.specs.PowerOn.{on_conditions, on_state, power_on_call}
 
@@ -95,13 +94,13 @@ pub power_on_keeps_sound : (room : ℕ) (s : State) (v : Events) (revision : ℕ
     → soundb (power_on_call room s v revision).state (power_on_call room s v revision).events ≡ true
 unfolding power_on_call
 power_on_keeps_sound room s v revision h =
-    keeps (λ t u. soundb t u ≡ true) power.Refused (on_conditions room s v revision) s v _ h
+    keeps (λ t u. soundb t u ≡ true) Err (on_conditions room s v revision) s v _ h
     (λ n. either (λ (t : State). soundb t v ≡ true) s.powered s (on_state s revision) h (on_sound s v revision h))
 
 pub power_off_keeps_sound : (room : ℕ) (s : State) (v : Events) → soundb s v ≡ true → soundb (power_off_call room s v).state (power_off_call room s v).events ≡ true
 unfolding power_off_call
 power_off_keeps_sound room s v h =
-    keeps (λ t u. soundb t u ≡ true) power.Refused (off_conditions room s v) s v _ h
+    keeps (λ t u. soundb t u ≡ true) Err (off_conditions room s v) s v _ h
     (λ n. off_sound s v h (passed room (soundb s v) s.awaited.next _ n).1.1.0)
 
 -- They leave begun as it is, and count what they cut.
@@ -109,11 +108,11 @@ pub power_on_keeps_account : (room : ℕ) (s : State) (v : Events) (revision i :
     → KeepsAccount (slot_at s i) (slot_at (power_on_call room s v revision).state i)
 unfolding power_on_call
 power_on_keeps_account room s v revision i h b =
-    keeps (λ t u. KeepsAccount (slot_at s i) (slot_at t i)) power.Refused (on_conditions room s v revision) s v _ (unmoved (slot_at s i))
+    keeps (λ t u. KeepsAccount (slot_at s i) (slot_at t i)) Err (on_conditions room s v revision) s v _ (unmoved (slot_at s i))
     (λ n. either (λ (t : State). KeepsAccount (slot_at s i) (slot_at t i)) s.powered s (on_state s revision) (unmoved (slot_at s i)) (reset_account s i h b))
 
 pub power_off_keeps_account : (room : ℕ) (s : State) (v : Events) (i : ℕ) → 2 ≤ i → i < 16 → KeepsAccount (slot_at s i) (slot_at (power_off_call room s v).state i)
 unfolding power_off_call
 power_off_keeps_account room s v i h b =
-    keeps (λ t u. KeepsAccount (slot_at s i) (slot_at t i)) power.Refused (off_conditions room s v) s v _ (unmoved (slot_at s i))
+    keeps (λ t u. KeepsAccount (slot_at s i) (slot_at t i)) Err (off_conditions room s v) s v _ (unmoved (slot_at s i))
     (λ n. slot_account off_slot (λ k. false) (λ k x. refl) (λ k d. refl) s i h b)

@@ -1,35 +1,28 @@
 -- Stall and enable orders (reference: `with_endpoint`, `set_endpoint_stalled` and `endpoint_set_enabled` of device.rs).
 -- Assumes nothing.
-use Rattle.std.specs.Prelude.{ℕ, Bool, List, []}
+use Rattle.std.specs.Prelude.{ℕ, Bool, List, [], Err, Result, Ok}
 use Rattle.state.specs.declared.State.{State}
 use Rattle.state.specs.declared.Events.{Events}
+use Rattle.state.specs.declared.Refusal.{Refusal}
 use Rattle.state.specs.Setters.{with_slot}
-use Rattle.state.specs.Numbers.{refusal_number}
 use Rattle.state.specs.Refusals.{Condition, first_refusal}
 use Rattle.state_slots.specs.Slots.{slot_number, slot_of}
 use Rattle.state_call.specs.Turn.{admitted}
 use Rattle.state_call.specs.Outcome.{Outcome, unless}
 use Rattle.bus_endpoint.specs.declared.Order.{Order}
-use Rattle.bus_endpoint.specs.declared.OrderAnswer.{OrderAnswer}
-use Rattle.bus_endpoint.specs.declared.OrderAnswer.TheVariants as order
 use Rattle.bus_endpoint.specs.Endpoint.{made_slot, made_ops, order_wakes}
 
 abbrev pub order_conditions : ℕ → State → Events → List Condition
 order_conditions room s v = admitted room s v []
 
-unfoldable pub order_call : ℕ → State → Events → ℕ → Bool → Order → Outcome OrderAnswer
+unfoldable pub order_call : ℕ → State → Events → ℕ → Bool → Order → Outcome (Result Unit Refusal)
 order_call room s v e incoming o =
-    unless order.Refused (first_refusal (order_conditions room s v)) s v
+    unless Err (first_refusal (order_conditions room s v)) s v
     (record {
-      answer = order.Ordered;
+      answer = Ok tt;
       state = with_slot s (slot_number e incoming) (made_slot s.powered e o (slot_of s e incoming));
       events = v;
       ops = made_ops s.powered e incoming o (slot_of s e incoming);
       wakes = order_wakes e incoming;
       copied = [];
     })
-
--- the number of an answer: 0 for an order that was taken, else the refusal's
-abbrev pub order_number : OrderAnswer → ℕ
-order_number order.Ordered = 0
-order_number (order.Refused r) = refusal_number r

@@ -4,20 +4,49 @@
 ghost use Rattle.std.specs.Prelude.{◌≡◌, length};
 ghost use Rattle.ops.specs.Wrote.{Wrote};
 ghost use Rattle.state.specs.Numbers.{check_number};
-ghost use Rattle.bus_order.specs.Order.{order_conditions, order_call, order_number};
 ghost use Rattle.state.specs.Refusals.{first_refusal};
+ghost use Rattle.bus_order.specs.Order.{order_conditions, order_call};
 ghost use Rattle.bus_endpoint.specs.declared.Order.TheVariants.{Stall, Enable};
 
-use bus_endpoint::{Order, OrderAnswer};
-use state::{Events, State, Wakes};
+use bus_endpoint::{Order, obey};
+use state::{EndpointAddress, Events, State};
+use state_call::Listed;
+use state_slots::slot_place;
+use state_sound::sound;
 
-// `end`: how many numbers of the list are taken.
-#[derive(Clone, Copy)]
-pub struct OrderResult {
-    pub state: State,
-    pub answer: OrderAnswer,
-    pub end: usize,
-    pub wakes: Wakes,
+// Inlined, since a call with the state costs two copies of it.
+#[inline(always)]
+fn order(
+    ops: &mut [u32],
+    mut state: State,
+    events: Events,
+    endpoint: EndpointAddress,
+    order: Order,
+) -> Listed<()>
+    ensures answer { result.answer ≡ (order_call (length ops.old) state events endpoint.index endpoint.incoming order).answer }
+    ensures state { result.state ≡ (order_call (length ops.old) state events endpoint.index endpoint.incoming order).state }
+    ensures list { Wrote ops.old 0 (order_call (length ops.old) state events endpoint.index endpoint.incoming order).ops result.end ops.new }
+    ensures wakes { result.wakes ≡ (order_call (length ops.old) state events endpoint.index endpoint.incoming order).wakes }
+    ensures number { check_number result.answer ≡ check_number (first_refusal (order_conditions (length ops.old) state events)) }
+{
+    let good = sound(state, events);
+    let i = slot_place(endpoint);
+    let obeyed = obey(
+        ops,
+        good,
+        state.awaited,
+        state.powered,
+        endpoint,
+        order,
+        state.endpoints[i],
+    );
+    state.endpoints[i] = obeyed.slot;
+    Listed {
+        state,
+        answer: obeyed.answer,
+        end: obeyed.end,
+        wakes: obeyed.wakes,
+    }
 }
 
 // Has an enabled endpoint answer STALL, or no longer. What is in hand there is cut.
@@ -25,40 +54,16 @@ pub fn endpoint_set_stalled(
     ops: &mut [u32],
     state: State,
     events: Events,
-    index: u8,
-    incoming: bool,
+    endpoint: EndpointAddress,
     stalled: bool,
-) -> OrderResult
-    ensures answer { result.answer ≡ (order_call (length ops.old) state events index incoming (Stall stalled)).answer }
-    ensures state { result.state ≡ (order_call (length ops.old) state events index incoming (Stall stalled)).state }
-    ensures list { Wrote ops.old 0 (order_call (length ops.old) state events index incoming (Stall stalled)).ops result.end ops.new }
-    ensures wakes { result.wakes ≡ (order_call (length ops.old) state events index incoming (Stall stalled)).wakes }
-    ensures number { order_number result.answer ≡ check_number (first_refusal (order_conditions (length ops.old) state events)) }
+) -> Listed<()>
+    ensures answer { result.answer ≡ (order_call (length ops.old) state events endpoint.index endpoint.incoming (Stall stalled)).answer }
+    ensures state { result.state ≡ (order_call (length ops.old) state events endpoint.index endpoint.incoming (Stall stalled)).state }
+    ensures list { Wrote ops.old 0 (order_call (length ops.old) state events endpoint.index endpoint.incoming (Stall stalled)).ops result.end ops.new }
+    ensures wakes { result.wakes ≡ (order_call (length ops.old) state events endpoint.index endpoint.incoming (Stall stalled)).wakes }
+    ensures number { check_number result.answer ≡ check_number (first_refusal (order_conditions (length ops.old) state events)) }
 {
-    let mut s = state;
-    let good = state_sound::sound(state, events);
-    let i = state_slots::slot_place(index, incoming);
-    let order = Order::Stall(stalled);
-    let o = bus_endpoint::obey(
-        ops,
-        good,
-        state.awaited,
-        state.powered,
-        index,
-        incoming,
-        order,
-        s.endpoints[i],
-    );
-    let y = o.slot;
-    let answer = o.answer;
-    let wakes = o.wakes;
-    s.endpoints[i] = y;
-    OrderResult {
-        state: s,
-        answer: answer,
-        end: o.end,
-        wakes: wakes,
-    }
+    order(ops, state, events, endpoint, Order::Stall(stalled))
 }
 
 // Switches an endpoint on or off. What is in hand there is cut.
@@ -66,38 +71,14 @@ pub fn endpoint_set_enabled(
     ops: &mut [u32],
     state: State,
     events: Events,
-    index: u8,
-    incoming: bool,
+    endpoint: EndpointAddress,
     enabled: bool,
-) -> OrderResult
-    ensures answer { result.answer ≡ (order_call (length ops.old) state events index incoming (Enable enabled)).answer }
-    ensures state { result.state ≡ (order_call (length ops.old) state events index incoming (Enable enabled)).state }
-    ensures list { Wrote ops.old 0 (order_call (length ops.old) state events index incoming (Enable enabled)).ops result.end ops.new }
-    ensures wakes { result.wakes ≡ (order_call (length ops.old) state events index incoming (Enable enabled)).wakes }
-    ensures number { order_number result.answer ≡ check_number (first_refusal (order_conditions (length ops.old) state events)) }
+) -> Listed<()>
+    ensures answer { result.answer ≡ (order_call (length ops.old) state events endpoint.index endpoint.incoming (Enable enabled)).answer }
+    ensures state { result.state ≡ (order_call (length ops.old) state events endpoint.index endpoint.incoming (Enable enabled)).state }
+    ensures list { Wrote ops.old 0 (order_call (length ops.old) state events endpoint.index endpoint.incoming (Enable enabled)).ops result.end ops.new }
+    ensures wakes { result.wakes ≡ (order_call (length ops.old) state events endpoint.index endpoint.incoming (Enable enabled)).wakes }
+    ensures number { check_number result.answer ≡ check_number (first_refusal (order_conditions (length ops.old) state events)) }
 {
-    let mut s = state;
-    let good = state_sound::sound(state, events);
-    let i = state_slots::slot_place(index, incoming);
-    let order = Order::Enable(enabled);
-    let o = bus_endpoint::obey(
-        ops,
-        good,
-        state.awaited,
-        state.powered,
-        index,
-        incoming,
-        order,
-        s.endpoints[i],
-    );
-    let y = o.slot;
-    let answer = o.answer;
-    let wakes = o.wakes;
-    s.endpoints[i] = y;
-    OrderResult {
-        state: s,
-        answer: answer,
-        end: o.end,
-        wakes: wakes,
-    }
+    order(ops, state, events, endpoint, Order::Enable(enabled))
 }

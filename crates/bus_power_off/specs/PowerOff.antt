@@ -1,19 +1,17 @@
--- Power off (reference: `power_off` of device.rs), and the numbers of a power call's answer.
+-- Power off (reference: `power_off` of device.rs).
 -- Assumes nothing.
-use Rattle.std.specs.Prelude.{ℕ, Bool, cond, List, []}
+use Rattle.std.specs.Prelude.{ℕ, Bool, cond, List, [], Err, Result, Ok}
 use Rattle.ops.specs.Ops.{Op}
 use Rattle.state.specs.declared.State.{State}
 use Rattle.state.specs.declared.Events.{Events}
+use Rattle.state.specs.declared.Refusal.{Refusal}
 use Rattle.state.specs.Setters.{with_slots, unasked, unpowered}
-use Rattle.state.specs.Numbers.{refusal_number}
 use Rattle.state.specs.Refusals.{Condition, first_refusal}
 use Rattle.state_slots.specs.Slots.{slots_off}
 use Rattle.state_slots.specs.Waking.{wake_all}
 use Rattle.state_call.specs.Turn.{admitted}
 use Rattle.state_call.specs.Outcome.{Outcome, unless}
 use Rattle.regs_device.specs.Device.{shutdown_ops}
-use Rattle.bus_power_off.specs.declared.PowerAnswer.{PowerAnswer}
-use Rattle.bus_power_off.specs.declared.PowerAnswer.TheVariants as power
 
 abbrev pub off_conditions : ℕ → State → Events → List Condition
 off_conditions room s v = admitted room s v []
@@ -26,13 +24,7 @@ off_state s = unpowered (unasked (with_slots s (slots_off s.endpoints)))
 abbrev pub shut_ops : Bool → List Op
 shut_ops powered = cond powered shutdown_ops []
 
-unfoldable pub power_off_call : ℕ → State → Events → Outcome PowerAnswer
+unfoldable pub power_off_call : ℕ → State → Events → Outcome (Result Unit Refusal)
 power_off_call room s v =
-    unless power.Refused (first_refusal (off_conditions room s v)) s v
-    (record { answer = power.Off; state = off_state s; events = v; ops = shut_ops s.powered; wakes = wake_all; copied = [] })
-
--- the number of an answer: 0, or the refusal's
-abbrev pub power_number : PowerAnswer → ℕ
-power_number power.Powered = 0
-power_number power.Off = 0
-power_number (power.Refused r) = refusal_number r
+    unless Err (first_refusal (off_conditions room s v)) s v
+    (record { answer = Ok tt; state = off_state s; events = v; ops = shut_ops s.powered; wakes = wake_all; copied = [] })

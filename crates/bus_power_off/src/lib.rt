@@ -1,4 +1,4 @@
-// Power off (reference: `Bus` of device.rs), and what a power call answers.
+// Power off (reference: `Bus` of device.rs).
 #![tactic(auto)]
 
 ghost use Rattle.std.specs.Prelude.{◌≡◌, ◌≤◌, length};
@@ -6,25 +6,13 @@ ghost use Rattle.ops.specs.Ops.{list_numbers};
 ghost use Rattle.ops.specs.Wrote.{Wrote};
 ghost use Rattle.state.specs.Numbers.{check_number};
 ghost use Rattle.state.specs.Refusals.{first_refusal};
-ghost use Rattle.bus_power_off.specs.PowerOff.{shut_ops, off_conditions, power_off_call, power_number};
+ghost use Rattle.bus_power_off.specs.PowerOff.{shut_ops, off_conditions, power_off_call};
 
-use state::{Check, Events, Refusal, State, Wakes};
-
-#[derive(Clone, Copy)]
-pub enum PowerAnswer {
-    Refused(Refusal),
-    Powered,
-    Off,
-}
-
-// `end`: how many numbers of the list are taken.
-#[derive(Clone, Copy)]
-pub struct PowerResult {
-    pub state: State,
-    pub answer: PowerAnswer,
-    pub end: usize,
-    pub wakes: Wakes,
-}
+use state::{Events, State};
+use state_call::{Listed, admit};
+use state_slots::reset;
+use state_slots::waking::{no_wakes, wake_all};
+use state_sound::sound;
 
 // The registers of a device that is on are shut down.
 fn shut(ops: &mut [u32], powered: bool) -> usize
@@ -38,41 +26,32 @@ fn shut(ops: &mut [u32], powered: bool) -> usize
 }
 
 // Leaves the bus; what is in hand is cut.
-pub fn power_off(ops: &mut [u32], state: State, events: Events) -> PowerResult
+pub fn power_off(ops: &mut [u32], mut state: State, events: Events) -> Listed<()>
     ensures answer { result.answer ≡ (power_off_call (length ops.old) state events).answer }
     ensures state { result.state ≡ (power_off_call (length ops.old) state events).state }
     ensures list { Wrote ops.old 0 (power_off_call (length ops.old) state events).ops result.end ops.new }
     ensures wakes { result.wakes ≡ (power_off_call (length ops.old) state events).wakes }
-    ensures number { power_number result.answer ≡ check_number (first_refusal (off_conditions (length ops.old) state events)) }
+    ensures number { check_number result.answer ≡ check_number (first_refusal (off_conditions (length ops.old) state events)) }
 {
-    let mut s = state;
-    let good = state_sound::sound(s, events);
-    let awaited = s.awaited;
-    let check = state_call::admit(ops.len(), good, awaited, Check::Fits);
-    if let Check::Refused(refusal) = check {
-        let wakes = state_slots::waking::no_wakes();
-        return PowerResult {
-            state: s,
-            answer: PowerAnswer::Refused(refusal),
+    let good = sound(state, events);
+    if let Err(refusal) = admit(ops.len(), good, state.awaited) {
+        return Listed {
+            state,
+            answer: Err(refusal),
             end: 0,
-            wakes: wakes,
+            wakes: no_wakes(),
         };
     }
-    let wakes = state_slots::waking::wake_all();
-    let end = shut(ops, s.powered);
-    let mut i: usize = 0;
-    while i < 16 {
-        let x = s.endpoints[i];
-        let y = state_slots::reset(x, 2 <= i, false);
-        s.endpoints[i] = y;
-        i = i + 1;
+    let end = shut(ops, state.powered);
+    for (i, slot) in state.endpoints.iter_mut().enumerate() {
+        *slot = reset(*slot, 2 <= i, false);
     }
-    s.powered = false;
-    s.has_setup = false; // a SETUP that nobody has fetched
-    PowerResult {
-        state: s,
-        answer: PowerAnswer::Off,
-        end: end,
-        wakes: wakes,
+    state.powered = false;
+    state.setup = None; // a SETUP that nobody has fetched
+    Listed {
+        state,
+        answer: Ok(()),
+        end,
+        wakes: wake_all(),
     }
 }

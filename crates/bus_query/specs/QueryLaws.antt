@@ -1,10 +1,11 @@
 -- A query looks at what stands in the endpoint's place, and changes nothing.
 -- Assumes nothing.
-use Rattle.std.specs.Prelude.{ℕ, ◌≡◌, refl, Bool, true, false, ◌&&◌, ltb}
+use Rattle.std.specs.Prelude.{ℕ, ◌≡◌, refl, Bool, true, false, ◌&&◌, ltb, Err, Result, Ok}
 use Rattle.std.proofs.Common.{sym, ◌∙◌, arith, ltb-true}
 use Rattle.state.specs.declared.Slot.{Slot}
 use Rattle.state.specs.declared.State.{State}
 use Rattle.state.specs.declared.Events.{Events}
+use Rattle.state.specs.declared.Refusal.{Refusal}
 use Rattle.state.specs.declared.Wakes.{Wakes}
 use Rattle.state.specs.Fresh.{slot_at}
 use Rattle.state.specs.Refusals.{first_refusal, Bound}
@@ -14,8 +15,6 @@ use Rattle.state_slots.specs.SlotsLaws.{own_place}
 use Rattle.state_slots.specs.Waking.{no_wakes}
 use Rattle.state_call.specs.Outcome.{or_else}
 use Rattle.state_call.specs.OutcomeLaws.{or_same, or_part, call_answer, call_state, call_wakes}
-use Rattle.bus_query.specs.declared.QueryAnswer.{QueryAnswer}
-use Rattle.bus_query.specs.declared.QueryAnswer.TheVariants as query
 use Rattle.bus_query.specs.Query.{query_conditions, query_call, query_numbers, query_says}
 
 -- of endpoints 0 to 7 the slot that stands in the endpoint's place is its own, and no other is asked
@@ -32,12 +31,12 @@ query_bound s v = bound (query_conditions s v)
 
 module _ (s : State) (v : Events) (b : Bool) where
   -- all that is promised of a query
-  pub query_told : (a : QueryAnswer) (w : Wakes) → a ≡ or_else (first_refusal (query_conditions s v)) query.Refused (query.Says b) → w ≡ no_wakes
+  pub query_told : (a : Result Bool Refusal) (w : Wakes) → a ≡ or_else (first_refusal (query_conditions s v)) Err (Ok b) → w ≡ no_wakes
       → (a ≡ (query_call s v b).answer) × ((w ≡ (query_call s v b).wakes) × (query_numbers a ≡ query_says s v b))
   query_told a w h k =
       let c = first_refusal (query_conditions s v) in
-      (h ∙ sym (call_answer query.Refused c s v _), (k ∙ sym (or_same c no_wakes) ∙ sym (call_wakes query.Refused c s v _), rw h (or_part query_numbers c query.Refused (query.Says b))))
+      (h ∙ sym (call_answer Err c s v _), (k ∙ sym (or_same c no_wakes) ∙ sym (call_wakes Err c s v _), rw h (or_part query_numbers c Err (Ok b))))
 
   -- it leaves the state
   pub query_state : (query_call s v b).state ≡ s
-  query_state = call_state query.Refused (first_refusal (query_conditions s v)) s v _ ∙ or_same (first_refusal (query_conditions s v)) s
+  query_state = call_state Err (first_refusal (query_conditions s v)) s v _ ∙ or_same (first_refusal (query_conditions s v)) s

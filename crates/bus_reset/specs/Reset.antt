@@ -1,7 +1,7 @@
 -- Resets (reference: `reset` of EndpointState, `control_reset` and `bus_reset` of device.rs). Their operations are those
 -- of regs_device.
 -- Assumes nothing.
-use Rattle.std.specs.Prelude.{ℕ, ◌+◌, ◌%◌, ◌^◌, true, false}
+use Rattle.std.specs.Prelude.{ℕ, ◌+◌, ◌%◌, ◌^◌, true, false, None}
 use Rattle.base.specs.Each.{change}
 use Rattle.state.specs.declared.Slot.{Slot}
 use Rattle.state.specs.declared.State.{State}
@@ -17,13 +17,11 @@ ep0_slot i x = reset_slot x false true
 abbrev pub ended_control : Control → Control
 ended_control c =
     record {
-      waits = c.waits;
       setup = c.setup;
       generation = (c.generation + 1) % 2 ^ 32;
       last = false;
       sequence = c.sequence;
-      has = false;
-      address = c.address;
+      address = None;
     }
 
 -- who waits for a stage of it is to be woken

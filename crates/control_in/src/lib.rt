@@ -10,8 +10,14 @@ ghost use Rattle.state_call.specs.Outcome.{front};
 ghost use Rattle.control_stage.specs.Stage.{ep0_unfit, stage_numbers, stage_says};
 ghost use Rattle.control_in.specs.DataIn.{next_sequence, data_in_conditions, data_in_call};
 
-use control_stage::{StageAnswer, StageResult};
-use state::{Awaited, Check, Events, Refusal, State};
+use base::copies::copy;
+use control_stage::{Stage, answered, is_served, is_unfit, staged};
+use regs_control::ep0_tx_ready;
+use state::refusals::refuse_if;
+use state::{Awaited, EP0_SIZE, Events, Refusal, State};
+use state_call::{Listed, admit};
+use state_slots::waking::no_wakes;
+use state_sound::sound;
 
 // The sequence number of a data packet: 0 of the first, then one more than the last report gave, modulo 32.
 fn next_sequence(first: bool, previous: u8) -> u32
@@ -31,19 +37,19 @@ fn packet_check(
     size: usize,
     served: bool,
     unfit: bool,
-) -> Check
+) -> Result<(), Refusal>
     ensures { result ≡ first_refusal (admitted_of room good awaited.next (TooLong if ltb 512 size ∷ Disabled if not served ∷ UnfitBuffer if unfit ∷ [])) }
 {
-    let lent = state::refusals::refuse_if(unfit, Refusal::UnfitBuffer, Check::Fits);
-    let due = state::refusals::refuse_if(!served, Refusal::Disabled, lent);
-    let further = state::refusals::refuse_if(512 < size, Refusal::TooLong, due);
-    state_call::admit(room, good, awaited, further)
+    admit(room, good, awaited)?;
+    refuse_if(size > EP0_SIZE as usize, Refusal::TooLong)?;
+    refuse_if(!served, Refusal::Disabled)?;
+    refuse_if(unfit, Refusal::UnfitBuffer)
 }
 
 // Sends a packet of a data stage to the host. Its bytes are copied to EP0's buffer, which is lent with its address.
 pub fn data_in(
     ops: &mut [u32],
-    state: State,
+    mut state: State,
     events: Events,
     generation: u32,
     bytes: &[u8],
@@ -51,7 +57,7 @@ pub fn data_in(
     address: u32,
     first: bool,
     last: bool,
-) -> StageResult
+) -> Listed<Stage>
     ensures answer { result.answer ≡ (data_in_call (length ops.old) state events generation bytes.now address (length ep0.old) first last).answer }
     ensures state { result.state ≡ (data_in_call (length ops.old) state events generation bytes.now address (length ep0.old) first last).state }
     ensures list { Wrote ops.old 0 (data_in_call (length ops.old) state events generation bytes.now address (length ep0.old) first last).ops result.end ops.new }
@@ -59,27 +65,22 @@ pub fn data_in(
     ensures numbers { stage_numbers result.answer ≡ stage_says (first_refusal (data_in_conditions (length ops.old) state events generation (length bytes.now) (ep0_unfit state address (length ep0.old)))) (0 ∷ []) }
     ensures lent { ep0.new ≡ front (data_in_call (length ops.old) state events generation bytes.now address (length ep0.old) first last).copied ep0.old }
 {
-    let mut s = state;
-    let good = state_sound::sound(s, events);
-    let awaited = s.awaited;
-    let served = control_stage::is_served(s.powered, s.control_generation, generation);
-    let unfit = control_stage::is_unfit(s.ep0_address, address, ep0.len());
-    let check = packet_check(ops.len(), good, awaited, bytes.len(), served, unfit);
-    if let Check::Refused(refusal) = check {
-        return control_stage::refused(refusal, s);
+    let good = sound(state, events);
+    let served = is_served(state.powered, state.control_generation, generation);
+    let unfit = is_unfit(state.ep0_address, address, ep0.len());
+    let check = packet_check(ops.len(), good, state.awaited, bytes.len(), served, unfit);
+    if let Err(refusal) = check {
+        return answered(state, Err(refusal));
     }
-    let length = base::copies::copy(bytes, ep0);
-    let sequence = next_sequence(first, s.tx_seq);
-    let end = regs_control::ep0_tx_ready(ops, 0, sequence, length as u32);
-    let wakes = state_slots::waking::no_wakes();
-    let slot = s.endpoints[1];
-    let y = control_stage::staged(slot);
-    s.endpoints[1] = y;
-    s.in_last = last;
-    StageResult {
-        state: s,
-        answer: StageAnswer::Accepted,
-        end: end,
-        wakes: wakes,
+    let length = copy(bytes, ep0);
+    let sequence = next_sequence(first, state.tx_seq);
+    let end = ep0_tx_ready(ops, 0, sequence, length as u32);
+    state.endpoints[1] = staged(state.endpoints[1]);
+    state.in_last = last;
+    Listed {
+        state,
+        answer: Ok(Stage::Accepted),
+        end,
+        wakes: no_wakes(),
     }
 }

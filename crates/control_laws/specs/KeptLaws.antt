@@ -1,6 +1,6 @@
 -- Steps that keep a state sound and the account of every data slot: one for each group of fields, and for the resets.
 -- Assumes nothing.
-use Rattle.std.specs.Prelude.{ℕ, ◌≤◌, ◌<◌, Bool, true, false, not, ◌&&◌, ◌||◌, cond, List, ◌≡◌, refl, leb, ltb}
+use Rattle.std.specs.Prelude.{ℕ, ◌≤◌, ◌<◌, Bool, true, false, not, ◌&&◌, ◌||◌, cond, List, Option, ◌≡◌, refl, leb, ltb}
 use Rattle.std.proofs.Math.Bool.{or-true}
 use Rattle.std.proofs.Common.{sym, ◌∙◌, ltb-true, ltb-false}
 use Rattle.base.specs.EachLaws.{changed_at}
@@ -17,8 +17,9 @@ use Rattle.state_slots.specs.Slots.{busyb}
 use Rattle.state_slots.specs.Completing.{done_slot, complete_at, complete, ended_state}
 use Rattle.state_slots.specs.Tally.{SameDifference}
 use Rattle.state_events.specs.Bytes.{events_soundb}
+use Rattle.state_sound.specs.Clauses.{address_fits}
 use Rattle.state_sound.specs.Sound.{soundb, slotb}
-use Rattle.state_sound.specs.FactLaws.{own_facts, slot_sound, events_sound, ep0_slot_lem, fresh_slot_sound}
+use Rattle.state_sound.proofs.FactLaws.{own_facts, slot_sound, events_sound, ep0_slot_lem, fresh_slot_sound}
 use Rattle.state_laws.specs.SetterLaws.{slots_sound, link_sound, control_sound, wake_sound, awaited_sound, ended_sound, ep0_stored}
 use Rattle.state_laws.specs.SlotLaws.{ep0_apart}
 use Rattle.state_laws.specs.TallyLaws.{keeps_difference, unmoved_difference, difference_then}
@@ -57,17 +58,17 @@ module _ (s t : State) (v : Events) (k : KeepsAll s t v) where
   all_awaited a on chain = record { sound = awaited_sound t v a k.sound (rw (on, or-true (not (awaitingb a.next)))) chain; account = k.account }
 
   -- an address that waits is 127 at most, a sequence number 31
-  pub all_control : (c : Control) → (not c.has || leb c.address 127) ≡ true → leb c.sequence 31 ≡ true → KeepsAll s (with_control t c) v
+  pub all_control : (c : Control) → address_fits c.address ≡ true → leb c.sequence 31 ≡ true → KeepsAll s (with_control t c) v
   all_control c ha hq = record { sound = control_sound t v c k.sound ha hq; account = k.account }
 
-  pub all_stage : (last has : Bool) (address : ℕ) → (not has || leb address 127) ≡ true → KeepsAll s (with_stage t last has address) v
-  all_stage last has address ha = all_control _ ha (own_facts t v k.sound).sequence
+  pub all_stage : (last : Bool) (address : Option ℕ) → address_fits address ≡ true → KeepsAll s (with_stage t last address) v
+  all_stage last address ha = all_control _ ha (own_facts t v k.sound).sequence
 
   -- endpoint 0's slots have no account, and nothing but their configuration is tested
-  pub all_ep0 : (i : ℕ) (y : Slot) → ltb i 2 ≡ true → y.configured ≡ (slot_at t i).configured → y.config ≡ (slot_at t i).config → KeepsAll s (with_slot t i y) v
-  all_ep0 i y h ec ek =
+  pub all_ep0 : (i : ℕ) (y : Slot) → ltb i 2 ≡ true → y.config ≡ (slot_at t i).config → KeepsAll s (with_slot t i y) v
+  all_ep0 i y h e =
       record {
-        sound = slots_sound t v _ k.sound (ep0_stored t t.powered i y h ec ek (slot_sound t v k.sound));
+        sound = slots_sound t v _ k.sound (ep0_stored t t.powered i y h e (slot_sound t v k.sound));
         account = λ j l b. rw (ep0_apart t.endpoints i y h j l) (k.account j l b);
       }
 
@@ -75,7 +76,7 @@ module _ (s t : State) (v : Events) (k : KeepsAll s t v) where
   all_complete i h = go (busyb (slot_at t i).phase)
     where
       go : (b : Bool) → KeepsAll s (complete_at b t i) v
-      go true = let n = all_ep0 i (done_slot (slot_at t i)) h refl refl in record { sound = wake_sound _ v _ n.sound; account = n.account }
+      go true = let n = all_ep0 i (done_slot (slot_at t i)) h refl in record { sound = wake_sound _ v _ n.sound; account = n.account }
       go false = k
 
   -- the control transfer's end leaves the data slots

@@ -7,33 +7,34 @@ ghost use Rattle.ops.specs.Wrote.{Wrote};
 ghost use Rattle.control_stage.specs.Stage.{servedb, stage_numbers, stage_says};
 ghost use Rattle.control_reject.specs.Reject.{reject_conditions, reject_call};
 
-use control_stage::{StageAnswer, StageResult};
-use state::{Check, Events, Refusal, State};
+use control_stage::{Stage, answered, is_served};
+use regs_control::ep0_stall;
+use state::{Events, State};
+use state_call::{Listed, admit};
+use state_slots::waking::no_wakes;
+use state_sound::sound;
 
 // Both directions answer STALL until the next SETUP.
-pub fn reject(ops: &mut [u32], state: State, events: Events, generation: u32) -> StageResult
+pub fn reject(ops: &mut [u32], state: State, events: Events, generation: u32) -> Listed<Stage>
     ensures answer { result.answer ≡ (reject_call (length ops.old) state events generation).answer }
     ensures state { result.state ≡ (reject_call (length ops.old) state events generation).state }
     ensures list { Wrote ops.old 0 (reject_call (length ops.old) state events generation).ops result.end ops.new }
     ensures wakes { result.wakes ≡ (reject_call (length ops.old) state events generation).wakes }
     ensures numbers { stage_numbers result.answer ≡ stage_says (first_refusal (reject_conditions (length ops.old) state events)) (cond (servedb state generation) (0 ∷ []) []) }
 {
-    let good = state_sound::sound(state, events);
-    let awaited = state.awaited;
-    let check = state_call::admit(ops.len(), good, awaited, Check::Fits);
-    if let Check::Refused(refusal) = check {
-        return control_stage::refused(refusal, state);
+    let good = sound(state, events);
+    let check = admit(ops.len(), good, state.awaited);
+    if let Err(refusal) = check {
+        return answered(state, Err(refusal));
     }
-    let served = control_stage::is_served(state.powered, state.control_generation, generation);
+    let served = is_served(state.powered, state.control_generation, generation);
     if !served {
-        return control_stage::unanswered(state);
+        return answered(state, Ok(Stage::Unanswered));
     }
-    let end = regs_control::ep0_stall(ops, 0);
-    let wakes = state_slots::waking::no_wakes();
-    StageResult {
-        state: state,
-        answer: StageAnswer::Accepted,
-        end: end,
-        wakes: wakes,
+    Listed {
+        state,
+        answer: Ok(Stage::Accepted),
+        end: ep0_stall(ops, 0),
+        wakes: no_wakes(),
     }
 }

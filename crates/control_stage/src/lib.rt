@@ -1,80 +1,66 @@
 // What the stages of a control transfer share, and the answer to a request (reference: control.rs).
 #![tactic(auto)]
 
-ghost use Rattle.std.specs.Prelude.{◌≡◌, not, ◌&&◌, eqb};
+ghost use Rattle.std.specs.Prelude.{◌≡◌, not, ◌&&◌, [], ◌∷◌, eqb};
+ghost use Rattle.state.specs.declared.Refusal.TheVariants.{Disabled};
+ghost use Rattle.state.specs.Refusals.{◌if◌, first_refusal};
 ghost use Rattle.state_slots.specs.Waking.{no_wakes};
-ghost use Rattle.control_stage.specs.declared.StageAnswer.TheVariants.{Refused, Unanswered};
+ghost use Rattle.state_call.specs.Turn.{admitted_of};
 ghost use Rattle.control_stage.specs.Stage.{staged_slot};
 
-use state::{Phase, Refusal, Slot, State, Wakes};
+use state::refusals::refuse_if;
+use state::{Awaited, EP0_SIZE, Phase, Refusal, Slot, State};
+use state_call::{Listed, admit};
+use state_slots::completing::moved;
+use state_slots::waking::no_wakes;
 
-// `Unanswered`: document 01 has no number for it.
-#[derive(Clone, Copy)]
-pub enum StageAnswer {
-    Refused(Refusal),
+// What a stage that isn't refused comes to. `Unanswered`: document 01 has no number for it.
+#[derive(Clone, Copy, PartialEq, Eq)]
+pub enum Stage {
     Accepted,
     Unanswered,
-}
-
-// `end`: how many numbers of the list are taken.
-#[derive(Clone, Copy)]
-pub struct StageResult {
-    pub state: State,
-    pub answer: StageAnswer,
-    pub end: usize,
-    pub wakes: Wakes,
 }
 
 // Whether a stage's generation is that of the last SETUP or bus reset, while there is power.
 pub fn is_served(powered: bool, current: u32, generation: u32) -> bool
     ensures { result ≡ (powered && eqb current generation) }
 {
-    powered & (current == generation)
+    powered && current == generation
 }
 
 // Whether EP0's lent buffer is another than the state's.
 pub fn is_unfit(ep0_address: u32, address: u32, size: usize) -> bool
     ensures { result ≡ not (eqb address ep0_address && eqb size 512) }
 {
-    !((address == ep0_address) & (size == 512))
+    address != ep0_address || size != EP0_SIZE as usize
 }
 
 // A slot of endpoint 0 under way.
 pub fn staged(slot: Slot) -> Slot
     ensures { result ≡ staged_slot slot }
 {
-    let transfer = slot.transfer;
-    state_slots::completing::moved(slot, Phase::Busy, transfer)
+    moved(slot, Phase::Busy, slot.transfer)
 }
 
-// Nothing is done.
-pub fn refused(refusal: Refusal, state: State) -> StageResult
-    ensures answer { result.answer ≡ Refused refusal }
+// What every call with a list is refused by, and then 22: `due` where the stage isn't served.
+pub fn admit_stage(room: usize, good: bool, awaited: Awaited, due: bool) -> Result<(), Refusal>
+    ensures { result ≡ first_refusal (admitted_of room good awaited.next (Disabled if due ∷ [])) }
+{
+    admit(room, good, awaited)?;
+    refuse_if(due, Refusal::Disabled)
+}
+
+// Nothing is done: the call is refused, or passed over.
+pub fn answered(state: State, answer: Result<Stage, Refusal>) -> Listed<Stage>
+    ensures answer { result.answer ≡ answer }
     ensures state { result.state ≡ state }
     ensures end { result.end ≡ 0 }
     ensures wakes { result.wakes ≡ no_wakes }
 {
-    let wakes = state_slots::waking::no_wakes();
-    StageResult {
-        state: state,
-        answer: StageAnswer::Refused(refusal),
+    Listed {
+        state,
+        answer,
         end: 0,
-        wakes: wakes,
-    }
-}
-
-// Nothing is done, and document 01 has no number for it.
-pub fn unanswered(state: State) -> StageResult
-    ensures answer { result.answer ≡ Unanswered }
-    ensures state { result.state ≡ state }
-    ensures end { result.end ≡ 0 }
-    ensures wakes { result.wakes ≡ no_wakes }
-{
-    let wakes = state_slots::waking::no_wakes();
-    StageResult {
-        state: state,
-        answer: StageAnswer::Unanswered,
-        end: 0,
-        wakes: wakes,
+        wakes: no_wakes(),
     }
 }

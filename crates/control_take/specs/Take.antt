@@ -1,11 +1,12 @@
 -- What the takes of stages share, and an IN stage taken (reference: `stage` of control.rs).
 -- Assumes nothing.
-use Rattle.std.specs.Prelude.{ℕ, Bool, true, false, not, cond, List, [], ◌∷◌}
+use Rattle.std.specs.Prelude.{ℕ, Bool, true, false, not, cond, List, [], ◌∷◌, Err, Option, Some, None, Result, Ok}
 use Rattle.state.specs.declared.Phase.{Phase}
 use Rattle.state.specs.declared.Phase.TheVariants.{Idle, Busy, Done}
 use Rattle.state.specs.declared.Slot.{Slot}
 use Rattle.state.specs.declared.State.{State}
 use Rattle.state.specs.declared.Events.{Events}
+use Rattle.state.specs.declared.Refusal.{Refusal}
 use Rattle.state.specs.declared.Refusal.TheVariants.{Disabled, UnfitBuffer}
 use Rattle.state.specs.Fresh.{slot_at}
 use Rattle.state.specs.Numbers.{refusal_number}
@@ -15,8 +16,6 @@ use Rattle.state_slots.specs.Slots.{moved_slot}
 use Rattle.state_slots.specs.Waking.{no_wakes}
 use Rattle.state_call.specs.Turn.{in_turn}
 use Rattle.state_call.specs.Outcome.{Outcome, or_else, unless}
-use Rattle.transfer_take.specs.declared.TakeAnswer.{TakeAnswer}
-use Rattle.transfer_take.specs.declared.TakeAnswer.TheVariants as answer
 use Rattle.transfer_take.specs.Take.{take_numbers}
 use Rattle.control_stage.specs.Stage.{servedb}
 
@@ -35,11 +34,11 @@ abbrev pub take_in_conditions : State → Events → ℕ → List Condition
 take_in_conditions s v generation = in_turn s v (stage_own s generation false)
 
 -- an IN stage that is done gives nothing but that it is
-unfoldable pub take_in_call : State → Events → ℕ → Outcome TakeAnswer
+unfoldable pub take_in_call : State → Events → ℕ → Outcome (Result (Option ℕ) Refusal)
 take_in_call s v generation =
-    unless answer.Refused (first_refusal (take_in_conditions s v generation)) s v
+    unless Err (first_refusal (take_in_conditions s v generation)) s v
     (record {
-      answer = cond (doneb (slot_at s 1).phase) (answer.Taken 0) answer.Busy;
+      answer = cond (doneb (slot_at s 1).phase) (Ok (Some 0)) (Ok None);
       state = cond (doneb (slot_at s 1).phase) (with_slot s 1 (idle_slot (slot_at s 1))) s;
       events = v;
       ops = [];
@@ -50,4 +49,4 @@ take_in_call s v generation =
 -- of a take they are those of any other take
 abbrev pub take_in_says : State → Events → ℕ → List ℕ
 take_in_says s v generation =
-    or_else (first_refusal (take_in_conditions s v generation)) (λ r. refusal_number r ∷ []) (take_numbers (cond (doneb (slot_at s 1).phase) (answer.Taken 0) answer.Busy))
+    or_else (first_refusal (take_in_conditions s v generation)) (λ r. refusal_number r ∷ []) (take_numbers (cond (doneb (slot_at s 1).phase) (Ok (Some 0)) (Ok None)))

@@ -9,71 +9,66 @@ ghost use Rattle.state_slots.specs.Waking.{no_wakes};
 ghost use Rattle.transfer_take.specs.Take.{take_numbers};
 ghost use Rattle.control_take.specs.Take.{doneb, idle_slot, take_in_call, take_in_says};
 
-use state::{Awaited, Check, Events, Phase, Refusal, Slot, State};
-use transfer_take::{TakeAnswer, TakeResult};
+use control_stage::is_served;
+use state::refusals::refuse_if;
+use state::{Awaited, Events, Phase, Refusal, Slot, State};
+use state_call::{Answered, turn_of};
+use state_slots::completing::moved;
+use state_slots::waking::no_wakes;
+use state_sound::sound;
 
 pub fn is_done(phase: Phase) -> bool
     ensures { result ≡ doneb phase }
 {
-    match phase {
-        Phase::Idle => false,
-        Phase::Busy => false,
-        Phase::Done => true,
-    }
+    phase == Phase::Done
 }
 
 pub fn idle(slot: Slot) -> Slot
     ensures { result ≡ idle_slot slot }
 {
-    let transfer = slot.transfer;
-    state_slots::completing::moved(slot, Phase::Idle, transfer)
+    moved(slot, Phase::Idle, slot.transfer)
 }
 
 // No list and no wakes.
-pub fn answered(state: State, answer: TakeAnswer) -> TakeResult
+pub fn answered(state: State, answer: Result<Option<u32>, Refusal>) -> Answered<Option<u32>>
     ensures answer { result.answer ≡ answer }
     ensures state { result.state ≡ state }
     ensures wakes { result.wakes ≡ no_wakes }
 {
-    let wakes = state_slots::waking::no_wakes();
-    TakeResult {
-        state: state,
-        answer: answer,
-        wakes: wakes,
+    Answered {
+        state,
+        answer,
+        wakes: no_wakes(),
     }
 }
 
 // What a stage of endpoint 0 is refused by: its generation, and EP0's buffer where it is lent.
-pub fn stage_check(good: bool, awaited: Awaited, served: bool, unfit: bool) -> Check
+pub fn stage_check(good: bool, awaited: Awaited, served: bool, unfit: bool) -> Result<(), Refusal>
     ensures { result ≡ first_refusal (turn_of good awaited.next (Disabled if not served ∷ UnfitBuffer if unfit ∷ [])) }
 {
-    let lent = state::refusals::refuse_if(unfit, Refusal::UnfitBuffer, Check::Fits);
-    let due = state::refusals::refuse_if(!served, Refusal::Disabled, lent);
-    state_call::turn_of(good, awaited, due)
+    turn_of(good, awaited)?;
+    refuse_if(!served, Refusal::Disabled)?;
+    refuse_if(unfit, Refusal::UnfitBuffer)
 }
 
 // Says that an IN stage is busy, or takes that it is done.
-pub fn take_in(state: State, events: Events, generation: u32) -> TakeResult
+pub fn take_in(mut state: State, events: Events, generation: u32) -> Answered<Option<u32>>
     ensures answer { result.answer ≡ (take_in_call state events generation).answer }
     ensures state { result.state ≡ (take_in_call state events generation).state }
     ensures wakes { result.wakes ≡ (take_in_call state events generation).wakes }
     ensures numbers { take_numbers result.answer ≡ take_in_says state events generation }
 {
-    let mut s = state;
-    let good = state_sound::sound(s, events);
-    let awaited = s.awaited;
-    let served = control_stage::is_served(s.powered, s.control_generation, generation);
-    let check = stage_check(good, awaited, served, false);
-    if let Check::Refused(refusal) = check {
-        return answered(s, TakeAnswer::Refused(refusal));
+    let good = sound(state, events);
+    let served = is_served(state.powered, state.control_generation, generation);
+    let check = stage_check(good, state.awaited, served, false);
+    if let Err(refusal) = check {
+        return answered(state, Err(refusal));
     }
-    let slot = s.endpoints[1];
-    let phase = slot.phase;
-    let done = is_done(phase);
+    let slot = state.endpoints[1];
+    let done = is_done(slot.phase);
     if !done {
-        return answered(s, TakeAnswer::Busy);
+        return answered(state, Ok(None));
     }
-    let y = idle(slot);
-    s.endpoints[1] = y;
-    answered(s, TakeAnswer::Taken(0))
+    state.endpoints[1] = idle(slot);
+    answered(state, Ok(Some(0)))
 }

@@ -1,68 +1,66 @@
 // An OUT stage taken (reference: `stage` of control.rs).
 #![tactic(auto)]
 
-ghost use Rattle.std.specs.Prelude.{◌≡◌, ◌≤◌, length, take};
+ghost use Rattle.std.specs.Prelude.{◌≡◌, ◌≤◌, length};
 ghost use Rattle.state_call.specs.Outcome.{front};
 ghost use Rattle.transfer_take.specs.Take.{take_numbers};
-ghost use Rattle.control_take_out.specs.TakeOut.{overflows, take_out_call, take_out_says};
+ghost use Rattle.control_take_out.specs.TakeOut.{overflows, out_says, out_copies, take_out_call, take_out_says};
 
-use state::{Check, Events, Refusal, State};
-use transfer_take::{TakeAnswer, TakeResult};
+use base::copies::copy;
+use control_stage::{is_served, is_unfit};
+use control_take::{answered, idle, is_done, stage_check};
+use state::refusals::refuse_if;
+use state::{EP0_SIZE, Events, Refusal, State};
+use state_call::Answered;
+use state_sound::sound;
 
 // More has come than there is room for, or than EP0's 512 bytes hold.
 fn is_too_long(received: u32, room: usize) -> bool
     ensures { result ≡ overflows received room }
 {
-    (room < received as usize) | (512 < received)
+    room < received as usize || EP0_SIZE < received
 }
 
-fn copy_out(out: &mut [u8], ep0: &[u8], received: u32)
-    requires room { received ≤ length out.old }
-    requires lent { received ≤ length ep0.now }
-    ensures { out.new ≡ front (take received ep0.now) out.old }
+// The bytes that have come are copied where there is room for them.
+fn copy_out(out: &mut [u8], ep0: &[u8], received: u32) -> Result<Option<u32>, Refusal>
+    requires { 512 ≤ length ep0.now }
+    ensures answer { result ≡ out_says received (length out.old) }
+    ensures lent { out.new ≡ front (out_copies received (length out.old) ep0.now) out.old }
 {
-    let end = received as usize;
-    base::copies::copy(&ep0[0..end], out);
+    refuse_if(is_too_long(received, out.len()), Refusal::TooLong)?;
+    copy(&ep0[..received as usize], out);
+    Ok(Some(received))
 }
 
 // Says that an OUT stage is busy, or takes its bytes out of EP0's buffer, which is lent with its address. Where there is
 // no room for them the stage is closed with 9, and nothing is copied.
 pub fn take_out(
-    state: State,
+    mut state: State,
     events: Events,
     generation: u32,
     out: &mut [u8],
     ep0: &[u8],
     address: u32,
-) -> TakeResult
+) -> Answered<Option<u32>>
     ensures answer { result.answer ≡ (take_out_call state events generation (length out.old) ep0.now address).answer }
     ensures state { result.state ≡ (take_out_call state events generation (length out.old) ep0.now address).state }
     ensures wakes { result.wakes ≡ (take_out_call state events generation (length out.old) ep0.now address).wakes }
     ensures numbers { take_numbers result.answer ≡ take_out_says state events generation (length out.old) ep0.now address }
     ensures lent { out.new ≡ front (take_out_call state events generation (length out.old) ep0.now address).copied out.old }
 {
-    let mut s = state;
-    let good = state_sound::sound(s, events);
-    let awaited = s.awaited;
-    let served = control_stage::is_served(s.powered, s.control_generation, generation);
-    let unfit = control_stage::is_unfit(s.ep0_address, address, ep0.len());
-    let check = control_take::stage_check(good, awaited, served, unfit);
-    if let Check::Refused(refusal) = check {
-        return control_take::answered(s, TakeAnswer::Refused(refusal));
+    let good = sound(state, events);
+    let served = is_served(state.powered, state.control_generation, generation);
+    let unfit = is_unfit(state.ep0_address, address, ep0.len());
+    let check = stage_check(good, state.awaited, served, unfit);
+    if let Err(refusal) = check {
+        return answered(state, Err(refusal));
     }
-    let slot = s.endpoints[0];
-    let phase = slot.phase;
-    let done = control_take::is_done(phase);
+    let slot = state.endpoints[0];
+    let done = is_done(slot.phase);
     if !done {
-        return control_take::answered(s, TakeAnswer::Busy);
+        return answered(state, Ok(None));
     }
-    let y = control_take::idle(slot);
-    s.endpoints[0] = y;
-    let received = slot.transfer.progress;
-    let long = is_too_long(received, out.len());
-    if long {
-        return control_take::answered(s, TakeAnswer::Refused(Refusal::TooLong));
-    }
-    copy_out(out, ep0, received);
-    control_take::answered(s, TakeAnswer::Taken(received))
+    state.endpoints[0] = idle(slot);
+    let answer = copy_out(out, ep0, slot.transfer.progress);
+    answered(state, answer)
 }

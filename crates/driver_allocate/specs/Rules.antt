@@ -1,12 +1,13 @@
 -- What an endpoint may be, and where its buffer lies (document 01, allocation).
 -- Assumes nothing.
-use Rattle.std.specs.Prelude.{ℕ, zero, suc, ◌+◌, ◌*◌, Bool, false, ◌&&◌, ◌||◌, not, cond, eqb, leb}
+use Rattle.std.specs.Prelude.{ℕ, zero, suc, ◌+◌, ◌*◌, Bool, true, false, ◌&&◌, not, cond, eqb, leb, Option, Some, None}
 use Rattle.std.specs.Bool.{beq}
+use Rattle.state.specs.declared.EndpointAddress.{EndpointAddress}
 use Rattle.state.specs.declared.EndpointType.{EndpointType}
 use Rattle.state.specs.declared.EndpointType.TheVariants.{Control, Isochronous, Bulk, Interrupt}
 use Rattle.state.specs.declared.EndpointRequest.{EndpointRequest}
 use Rattle.state.specs.declared.Driver.{Driver}
-use Rattle.state_slots.specs.Slots.{slot_number}
+use Rattle.state_slots.specs.Slots.{slot_number, configured}
 use Rattle.state.specs.Fresh.{allocation_at}
 use Rattle.driver_new.specs.New.{up4}
 
@@ -32,21 +33,32 @@ abbrev pub burst_fits : Profile → ℕ → ℕ → ℕ → Bool
 burst_fits present burst streams mult = leb burst 15 && eqb streams 0 && eqb mult 0
 
 -- refusal 5: an address that is requested has the direction that is allocated
-abbrev pub direction_fits : Bool → Bool → Bool → Bool
-direction_fits requested theirs ours = not requested || beq theirs ours
+abbrev pub direction_fits : Option EndpointAddress → Bool → Bool
+direction_fits None ours = true
+direction_fits (Some a) ours = beq a.incoming ours
 
 -- the lowest of 1, 2, .., n that p is true of, or 0
 unfoldable pub lowest : (ℕ → Bool) → ℕ → ℕ
 lowest p zero = 0
 lowest p (suc n) = cond (eqb (lowest p n) 0 && p (suc n)) (suc n) (lowest p n)
 
+-- none where it is 0
+abbrev pub found : ℕ → Option ℕ
+found zero = None
+found (suc n) = Some (suc n)
+
+-- whether an endpoint is the one requested, if one is
+abbrev pub index_fits : Option EndpointAddress → ℕ → Bool
+index_fits None e = true
+index_fits (Some a) e = eqb a.index e
+
 -- whether endpoint e isn't allocated yet, and is the one requested if one is
-abbrev pub available : Driver → Bool → Bool → ℕ → ℕ → Bool
-available d incoming requested index e = not (allocation_at d (slot_number e incoming)).configured && (not requested || eqb index e)
+abbrev pub available : Driver → Bool → Option EndpointAddress → ℕ → Bool
+available d incoming requested e = not (configured (allocation_at d (slot_number e incoming))) && index_fits requested e
 
 -- the endpoint that a request gets; 0 where refusal 20 is due
 abbrev pub endpoint_for : Driver → Bool → EndpointRequest → ℕ
-endpoint_for d incoming r = lowest (available d incoming r.requested r.index) 7
+endpoint_for d incoming r = lowest (available d incoming r.endpoint) 7
 
 -- its own buffer: offset in the memory, length, and where it ends
 abbrev pub start_for : Driver → ℕ

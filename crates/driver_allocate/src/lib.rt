@@ -1,165 +1,146 @@
 // Allocating the endpoints of a driver (reference: `Driver::allocate` of device.rs).
 #![tactic(auto)]
 
-ghost use Rattle.std.specs.Prelude.{◌≡◌, ◌≤◌, ◌+◌, ◌*◌, ◌&&◌, cond, eqb};
-ghost use Rattle.driver_new.specs.New.{up4};
-ghost use Rattle.driver_allocate.specs.Rules.{present, size_fits, burst_fits, direction_fits, available, lowest};
-ghost use Rattle.driver_allocate.specs.Allocate.{allocate_check, Placeable, placed, allocate_result, allocate_numbers, numbers_for};
+ghost use Rattle.std.specs.Prelude.{◌≡◌, ◌≤◌, Ok, Err};
+ghost use Rattle.state_call.specs.Outcome.{or_else};
+ghost use Rattle.driver_allocate.specs.Rules.{present, size_fits, burst_fits, direction_fits, index_fits, available, lowest, found, endpoint_for, size_for, end_for};
+ghost use Rattle.driver_allocate.specs.Allocate.{allocate_check, address_for, config_for, driver_with, Placeable, allocate_result, allocate_numbers, numbers_for};
 
+use driver_new::up4_of;
+use driver_sound::driver_sound;
+use state::refusals::refuse_if;
 use state::{
-    Allocation, Buffer, Check, Driver, EndpointConfig, EndpointRequest, EndpointType, Refusal,
+    Buffer, Driver, EndpointAddress, EndpointConfig, EndpointRequest, EndpointType, Refusal,
 };
+use state_slots::slot_number;
 
-#[derive(Clone, Copy)]
-pub enum AllocateAnswer {
-    Refused(Refusal),
-    Endpoint(EndpointConfig),
-}
-
-#[derive(Clone, Copy)]
-pub struct AllocateResult {
-    pub answer: AllocateAnswer,
-    pub driver: Driver,
-}
-
-fn packet_size_valid(ep_type: EndpointType, size: u16, interval: u8) -> bool
-    ensures { result ≡ size_fits present ep_type size interval }
+fn packet_size_valid(request: EndpointRequest) -> bool
+    ensures { result ≡ size_fits present request.ep_type request.max_packet_size request.interval_ms }
 {
-    match ep_type {
+    let periodic = (1..=1024).contains(&request.max_packet_size) && request.interval_ms != 0;
+    match request.ep_type {
         EndpointType::Control => false,
-        EndpointType::Isochronous => (1 <= size) & (size <= 1024) & (interval != 0),
-        EndpointType::Bulk => size == 1024,
-        EndpointType::Interrupt => (1 <= size) & (size <= 1024) & (interval != 0),
+        EndpointType::Isochronous => periodic,
+        EndpointType::Bulk => request.max_packet_size == 1024,
+        EndpointType::Interrupt => periodic,
     }
 }
 
-fn burst_valid(burst: u8, streams: u16, mult: u8) -> bool
-    ensures { result ≡ burst_fits present burst streams mult }
+fn burst_valid(request: EndpointRequest) -> bool
+    ensures { result ≡ burst_fits present request.max_burst request.max_streams request.mult }
 {
-    (burst <= 15) & (streams == 0) & (mult == 0)
+    request.max_burst <= 15 && request.max_streams == 0 && request.mult == 0
 }
 
-fn direction_valid(requested: bool, theirs: bool, ours: bool) -> bool
-    ensures { result ≡ direction_fits requested theirs ours }
+fn direction_valid(requested: Option<EndpointAddress>, incoming: bool) -> bool
+    ensures { result ≡ direction_fits requested incoming }
 {
-    !requested | (theirs == ours)
-}
-
-// Whether endpoint e isn't allocated yet, and is the one requested if one is.
-fn is_available(driver: Driver, incoming: bool, requested: bool, index: u8, e: u8) -> bool
-    requires { e ≤ 7 }
-    ensures { result ≡ available driver incoming requested index e }
-{
-    let i = state_slots::slot_number(e, incoming);
-    let a = driver.endpoints[i];
-    !a.configured & (!requested | (index == e))
-}
-
-fn lower(found: u8, available: bool, e: u8) -> u8
-    ensures { result ≡ cond (eqb found 0 && available) e found }
-{
-    if (found == 0) & available {
-        return e;
+    match requested {
+        Some(address) => address.incoming == incoming,
+        None => true,
     }
-    found
 }
 
-// The lowest available endpoint, or 0.
-fn free_endpoint(driver: Driver, incoming: bool, requested: bool, index: u8) -> u8
-    ensures { result ≡ lowest (available driver incoming requested index) 7 }
+// Whether an endpoint is the one requested, if one is.
+fn index_valid(requested: Option<EndpointAddress>, index: u8) -> bool
+    ensures { result ≡ index_fits requested index }
 {
-    let mut found: u8 = 0;
-    let mut n: u8 = 0;
-    while n < 7 {
-        let e = n + 1;
-        let free = is_available(driver, incoming, requested, index, e);
-        found = lower(found, free, e);
-        n = e;
+    match requested {
+        Some(address) => address.index == index,
+        None => true,
     }
-    found
+}
+
+// Whether an endpoint isn't allocated yet, and is the one requested if one is.
+fn is_available(
+    driver: &Driver,
+    endpoint: EndpointAddress,
+    requested: Option<EndpointAddress>,
+) -> bool
+    requires { endpoint.index ≤ 7 }
+    ensures { result ≡ available driver.now endpoint.incoming requested endpoint.index }
+{
+    driver.endpoints[slot_number(endpoint)].is_none() && index_valid(requested, endpoint.index)
+}
+
+// The lowest available endpoint.
+fn free_endpoint(driver: &Driver, incoming: bool, requested: Option<EndpointAddress>) -> Option<u8>
+    ensures { result ≡ found (lowest (available driver.now incoming requested) 7) }
+{
+    (1..8).find(|&index| is_available(driver, EndpointAddress { index, incoming }, requested))
 }
 
 // Length of an endpoint's own buffer: a burst of packets.
-fn size_of(size: u16, burst: u8) -> u32
-    ensures { result ≡ size * (burst + 1) }
+fn size_for(request: EndpointRequest) -> u32
+    ensures { result ≡ size_for request }
 {
-    (size as u32) * ((burst as u32) + 1)
+    (request.max_packet_size as u32) * (request.max_burst as u32 + 1)
 }
 
-// Where a buffer of this length would end in the memory.
-fn end_of(used: u32, size: u32) -> u64
-    ensures { result ≡ up4 used + size }
+// Where the buffer would end in the memory.
+fn end_for(driver: &Driver, request: EndpointRequest) -> u64
+    ensures { result ≡ end_for driver.now request }
 {
-    let start = driver_new::up4_of(used);
-    start + (size as u64)
+    up4_of(driver.used) + size_for(request) as u64
 }
 
-fn allocate_check(driver: Driver, incoming: bool, request: EndpointRequest) -> Check
-    ensures { result ≡ allocate_check driver incoming request }
+// The endpoint that a request gets, unless it is refused.
+#[tactic(auto, using(crate::specs::RulesLaws::found_none, crate::specs::RulesLaws::found_some), unfolding(crate::specs::Allocate::allocate_check, state_call::specs::Outcome::or_else))]
+fn endpoint_of(
+    driver: &Driver,
+    incoming: bool,
+    request: EndpointRequest,
+) -> Result<EndpointAddress, Refusal>
+    ensures { result ≡ or_else (allocate_check driver.now incoming request) Err (Ok (address_for driver.now incoming request)) }
 {
-    let ep_type = request.ep_type;
-    let sound = driver_sound::driver_sound(driver);
-    let sized = packet_size_valid(ep_type, request.max_packet_size, request.interval_ms);
-    let burst = burst_valid(request.max_burst, request.max_streams, request.mult);
-    let directed = direction_valid(request.requested, request.incoming, incoming);
-    let endpoint = free_endpoint(driver, incoming, request.requested, request.index);
-    let size = size_of(request.max_packet_size, request.max_burst);
-    let end = end_of(driver.used, size);
+    refuse_if(!driver_sound(*driver), Refusal::Unsound)?;
+    refuse_if(!packet_size_valid(request), Refusal::UnfitPacketSize)?;
+    refuse_if(!burst_valid(request), Refusal::UnfitBurst)?;
+    let directed = direction_valid(request.endpoint, incoming);
+    refuse_if(!directed, Refusal::WrongDirection)?;
+    let index = free_endpoint(driver, incoming, request.endpoint).ok_or(Refusal::NoFreeEndpoint)?;
     let capacity = driver.capacity as u64;
-    let room = state::refusals::refuse_if(capacity < end, Refusal::NoRoom, Check::Fits);
-    let free = state::refusals::refuse_if(endpoint == 0, Refusal::NoFreeEndpoint, room);
-    let way = state::refusals::refuse_if(!directed, Refusal::WrongDirection, free);
-    let fast = state::refusals::refuse_if(!burst, Refusal::UnfitBurst, way);
-    let kind = state::refusals::refuse_if(!sized, Refusal::UnfitPacketSize, fast);
-    state::refusals::refuse_if(!sound, Refusal::Unsound, kind)
+    refuse_if(capacity < end_for(driver, request), Refusal::NoRoom)?;
+    Ok(EndpointAddress { index, incoming })
 }
 
-// The endpoint that an accepted request gets, and the driver with it.
-fn place(driver: Driver, incoming: bool, request: EndpointRequest) -> AllocateResult
-    requires { Placeable driver incoming request }
-    ensures { result ≡ placed driver incoming request }
+// The endpoint of an accepted request, which the driver then has.
+#[tactic(auto, using(crate::specs::RulesLaws::lowest_most))]
+fn place(driver: &mut Driver, endpoint: EndpointAddress, request: EndpointRequest) -> EndpointConfig
+    requires placeable { Placeable driver.old endpoint.incoming request }
+    requires index { endpoint.index ≡ endpoint_for driver.old endpoint.incoming request }
+    ensures config { result ≡ config_for driver.old endpoint.incoming request }
+    ensures driver { driver.new ≡ driver_with driver.old endpoint.incoming request }
 {
-    let e = free_endpoint(driver, incoming, request.requested, request.index);
-    let start = driver_new::up4_of(driver.used) as u32;
-    let size = size_of(request.max_packet_size, request.max_burst);
-    let ep_type = request.ep_type;
-    let address = driver.memory + start;
+    let start = up4_of(driver.used) as u32;
+    let size = size_for(request);
     let config = EndpointConfig {
-        index: e,
-        incoming: incoming,
-        ep_type: ep_type,
+        endpoint,
+        ep_type: request.ep_type,
         max_packet_size: request.max_packet_size,
         interval_ms: request.interval_ms,
         max_burst: request.max_burst,
         buffer: Buffer {
-            address: address,
-            size: size,
+            address: driver.memory + start,
+            size,
         },
     };
-    let i = state_slots::slot_number(e, incoming);
-    let mut d = driver;
-    d.endpoints[i] = Allocation {
-        configured: true,
-        config: config,
-    };
-    d.used = start + size;
-    AllocateResult {
-        answer: AllocateAnswer::Endpoint(config),
-        driver: d,
-    }
+    driver.endpoints[slot_number(endpoint)] = Some(config);
+    driver.used = start + size;
+    config
 }
 
 // An endpoint of the given direction.
-pub fn allocate(driver: Driver, incoming: bool, request: EndpointRequest) -> AllocateResult
-    ensures result { result ≡ allocate_result driver incoming request }
-    ensures numbers { allocate_numbers result.answer ≡ numbers_for (allocate_check driver incoming request) driver incoming request }
+#[tactic(auto, using(crate::specs::AllocateLaws::placeable), unfolding(crate::specs::Allocate::allocate_result, crate::specs::Allocate::placed, state_call::specs::Outcome::or_else))]
+pub fn allocate(
+    driver: &mut Driver,
+    incoming: bool,
+    request: EndpointRequest,
+) -> Result<EndpointConfig, Refusal>
+    ensures answer { result ≡ (allocate_result driver.old incoming request).answer }
+    ensures driver { driver.new ≡ (allocate_result driver.old incoming request).driver }
+    ensures numbers { allocate_numbers result ≡ numbers_for (allocate_check driver.old incoming request) driver.old incoming request }
 {
-    let check = allocate_check(driver, incoming, request);
-    match check {
-        Check::Fits => place(driver, incoming, request),
-        Check::Refused(refusal) => AllocateResult {
-            answer: AllocateAnswer::Refused(refusal),
-            driver: driver,
-        },
-    }
+    let endpoint = endpoint_of(driver, incoming, request)?;
+    Ok(place(driver, endpoint, request))
 }

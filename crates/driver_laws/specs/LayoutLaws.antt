@@ -1,26 +1,25 @@
 -- Where the buffers lie, after any list of requests to a new driver.
 -- Assumes nothing.
-use Rattle.std.specs.Prelude.{ℕ, ◌+◌, ◌*◌, ◌%◌, ◌≤◌, ◌<◌, Bool, true, false, ◌&&◌, not, List, [], ◌∷◌, ◌⊎◌, ◌≡◌, refl, eqb, leb, ltb, length}
-use Rattle.std.proofs.Common.{inl, inr, ap, sym, ◌∙◌, mul-le-mul, arith, eqb-true, eq-eqb, leb-true, le-leb, lt-ltb, ltb-false, length-set, get_or-set_same, get_or-set_other}
+use Rattle.std.specs.Prelude.{ℕ, ◌+◌, ◌*◌, ◌%◌, ◌≤◌, ◌<◌, Bool, true, false, ◌&&◌, not, List, [], ◌∷◌, ◌⊎◌, ◌≡◌, refl, eqb, leb, ltb, length, Option, Some, None, Ok, Err}
+use Rattle.std.proofs.Common.{inl, inr, ap, sym, subst, ◌∙◌, mul-le-mul, arith, eqb-true, eq-eqb, leb-true, le-leb, lt-ltb, ltb-false, length-set, get_or-set_same, get_or-set_other}
 use Rattle.std.proofs.Math.Nat.{mul-mod_right}
 use Rattle.std.proofs.lemmas.Bool.{eqb-false, not-false}
 use Rattle.std.proofs.lemmas.List.{length-replicate, get_or-replicate}
 use Rattle.state.specs.declared.EndpointType.{EndpointType}
 use Rattle.state.specs.declared.EndpointType.TheVariants.{Control, Isochronous, Bulk, Interrupt}
 use Rattle.state.specs.declared.Buffer.{Buffer}
+use Rattle.state.specs.declared.EndpointConfig.{EndpointConfig}
 use Rattle.state.specs.declared.EndpointRequest.{EndpointRequest}
-use Rattle.state.specs.declared.Allocation.{Allocation}
 use Rattle.state.specs.declared.Driver.{Driver}
-use Rattle.state.specs.declared.Check.{Check}
-use Rattle.state.specs.declared.Check.TheVariants.{Fits, Refused}
-use Rattle.state_slots.specs.Slots.{slot_number}
-use Rattle.state.specs.Fresh.{no_allocation, allocation_at}
+use Rattle.state.specs.Refusals.{Check}
+use Rattle.state_slots.specs.Slots.{slot_number, configured, buffer_of}
+use Rattle.state.specs.Fresh.{allocation_at}
 use Rattle.state.specs.RefusalsLaws.{none_due, not_due}
 use Rattle.base.specs.Each.{every}
 use Rattle.base.specs.EachLaws.{and_left, and_right, true_not_false}
 use Rattle.state_sound.specs.Clauses.{in_ram, aligned}
 use Rattle.state_sound.specs.Sound.{configb, driver_soundb}
-use Rattle.state_sound.specs.FactLaws.{InRam, in_ram_lem, in_ram_is, DriverFacts, driver_is}
+use Rattle.state_sound.proofs.FactLaws.{InRam, in_ram_lem, in_ram_is, DriverFacts, driver_is}
 use Rattle.state_call.specs.Outcome.{or_else}
 use Rattle.driver_new.specs.New.{new_conditions, new_check, new_driver, no_driver, new_result, capacity_of}
 use Rattle.driver_allocate.specs.Rules.{present, periodic_fits, size_fits, endpoint_for, available, start_for, size_for}
@@ -29,10 +28,10 @@ use Rattle.driver_allocate.specs.Allocate.{allocate_check, allocate_at, allocate
 use Rattle.driver_allocate.specs.AllocateLaws.{accepted_request}
 
 abbrev pub buffer_at : Driver → ℕ → Buffer
-buffer_at d i = (allocation_at d i).config.buffer
+buffer_at d i = buffer_of (allocation_at d i)
 
 abbrev pub allocated : Driver → ℕ → Bool
-allocated d i = (allocation_at d i).configured
+allocated d i = configured (allocation_at d i)
 
 -- in the driver's memory, behind EP0's 512 bytes and not past what is in use, at a multiple of 4
 pub record Within (d : Driver) (b : Buffer) : Type 0 where
@@ -51,7 +50,7 @@ pub record Layout (d : Driver) : Type 0 where
   pub apart : (i j : ℕ) → i < 16 → j < 16 → (i ≡ j → ⊥) → allocated d i ≡ true → allocated d j ≡ true → Apart (buffer_at d i) (buffer_at d j)
 
 -- an empty slot has nothing to be wrong
-empty_config : (i : ℕ) → configb i false no_allocation.config ≡ true
+empty_config : (i : ℕ) → configb i None ≡ true
 unfolding configb
 empty_config i = refl
 
@@ -59,13 +58,13 @@ nothing_in : (b : Bool) {A : Type 0} → b ≡ false → b ≡ true → A
 nothing_in b e h = absurd (true_not_false (sym h ∙ e))
 
 -- a new driver
-new_layout : (a l : ℕ) → new_check a l ≡ Fits → Layout (new_driver a l)
+new_layout : (a l : ℕ) → new_check a l ≡ Ok tt → Layout (new_driver a l)
 unfolding new_check
 new_layout a l h =
     let n1 = not_due (none_due (new_conditions a l) h) in
     let ram : InRam a l = in_ram_lem a l (not-false _ n1.0) in
     let enough : 512 ≤ capacity_of a l = ltb-false _ _ (not_due n1.1).0 in
-    let none : (i : ℕ) → i < 16 → allocation_at (new_driver a l) i ≡ no_allocation = λ i b. get_or-replicate 16 i no_allocation no_allocation b in
+    let none : (i : ℕ) → i < 16 → allocation_at (new_driver a l) i ≡ None = λ i b. get_or-replicate 16 i None None b in
     record {
       facts =
           record {
@@ -75,9 +74,9 @@ new_layout a l h =
             room = enough;
             configs = λ i b. rw (none i b) (empty_config i);
           };
-      slots = length-replicate 16 no_allocation;
-      within = λ i b c. nothing_in _ (ap (λ (x : Allocation). x.configured) (none i b)) c;
-      apart = λ i j b b' n c c'. nothing_in _ (ap (λ (x : Allocation). x.configured) (none i b)) c;
+      slots = length-replicate {A = Option EndpointConfig} 16 None;
+      within = λ i b c. nothing_in _ (ap configured (none i b)) c;
+      apart = λ i j b b' n c c'. nothing_in _ (ap configured (none i b)) c;
     }
 
 -- what refusal 3 lets through
@@ -98,7 +97,7 @@ burst_some m b h = let k : 1 ≤ b + 1 = omega arith in omega (arith, mul-le-mul
 
 -- the allocated endpoint is sound where it stands
 config_placed : (d : Driver) (incoming : Bool) (r : EndpointRequest) → AcceptedRequest d incoming r
-    → configb (slot_number (endpoint_for d incoming r) incoming) true (config_for d incoming r) ≡ true
+    → configb (slot_number (endpoint_for d incoming r) incoming) (Some (config_for d incoming r)) ≡ true
 unfolding configb
 config_placed d incoming r a =
     let f = a.driver in
@@ -125,14 +124,14 @@ module _ (d : Driver) (incoming : Bool) (r : EndpointRequest) (a : AcceptedReque
   there = driver_with d incoming r
 
   here_in : here < 16
-  here_in = slot_small (endpoint_for d incoming r) incoming (lowest_most (available d incoming r.requested r.index) 7)
+  here_in = slot_small (endpoint_for d incoming r) incoming (lowest_most (available d incoming r.endpoint) 7)
 
   -- slot by slot: the new one, and the others as they were
-  at_here : allocation_at there here ≡ record { configured = true; config = config_for d incoming r }
-  at_here = get_or-set_same d.endpoints here _ no_allocation (rw sixteen here_in)
+  at_here : allocation_at there here ≡ Some (config_for d incoming r)
+  at_here = get_or-set_same d.endpoints here _ None (rw sixteen here_in)
 
   elsewhere : (i : ℕ) → (i ≡ here → ⊥) → allocation_at there i ≡ allocation_at d i
-  elsewhere i n = get_or-set_other d.endpoints here i _ no_allocation n
+  elsewhere i n = get_or-set_other d.endpoints here i _ None n
 
   new_within : Within there (config_for d incoming r).buffer
   new_within = record { behind = omega (arith, a.driver.ep0); inside = omega arith; even = omega (arith, a.driver.even) }
@@ -144,7 +143,7 @@ module _ (d : Driver) (incoming : Bool) (r : EndpointRequest) (a : AcceptedReque
   before_new b w = omega (arith, w.inside)
 
   -- what holds of the new slot and of each other holds of all
-  by_slot : (P : ℕ → Allocation → Type 0) → P here (record { configured = true; config = config_for d incoming r }) → ((i : ℕ) → (i ≡ here → ⊥) → i < 16 → P i (allocation_at d i))
+  by_slot : (P : ℕ → Option EndpointConfig → Type 0) → P here (Some (config_for d incoming r)) → ((i : ℕ) → (i ≡ here → ⊥) → i < 16 → P i (allocation_at d i))
       → (i : ℕ) → i < 16 → P i (allocation_at there i)
   by_slot P new old i b = go (eqb i here) refl
     where
@@ -159,19 +158,19 @@ module _ (d : Driver) (incoming : Bool) (r : EndpointRequest) (a : AcceptedReque
         even = a.driver.even;
         ep0 = omega (arith, a.driver.ep0);
         room = a.room;
-        configs = by_slot (λ i x. configb i x.configured x.config ≡ true) (config_placed d incoming r a) (λ i n b. a.driver.configs i b);
+        configs = by_slot (λ i x. configb i x ≡ true) (config_placed d incoming r a) (λ i n b. a.driver.configs i b);
       }
 
   -- the new buffer and any other, and two others
   new_apart : Layout d → (j : ℕ) → j < 16 → (here ≡ j → ⊥) → allocated there j ≡ true → Apart (config_for d incoming r).buffer (buffer_at there j)
   new_apart l =
-      by_slot (λ j y. (here ≡ j → ⊥) → y.configured ≡ true → Apart (config_for d incoming r).buffer y.config.buffer)
+      by_slot (λ j y. (here ≡ j → ⊥) → configured y ≡ true → Apart (config_for d incoming r).buffer (buffer_of y))
       (λ n c. absurd (n refl))
       (λ j m b n c. inr (before_new (buffer_at d j) (l.within j b c)))
 
   old_apart : Layout d → (i : ℕ) → i < 16 → allocated d i ≡ true → (j : ℕ) → j < 16 → (i ≡ j → ⊥) → allocated there j ≡ true → Apart (buffer_at d i) (buffer_at there j)
   old_apart l i b c =
-      by_slot (λ j y. (i ≡ j → ⊥) → y.configured ≡ true → Apart (buffer_at d i) y.config.buffer)
+      by_slot (λ j y. (i ≡ j → ⊥) → configured y ≡ true → Apart (buffer_at d i) (buffer_of y))
       (λ n c'. inl (before_new (buffer_at d i) (l.within i b c)))
       (λ j m b' n c'. l.apart i j b b' n c c')
 
@@ -180,10 +179,10 @@ module _ (d : Driver) (incoming : Bool) (r : EndpointRequest) (a : AcceptedReque
       record {
         facts = with_facts;
         slots = length-set d.endpoints here _ ∙ sixteen;
-        within = by_slot (λ i x. x.configured ≡ true → Within there x.config.buffer) (λ c. new_within) (λ i n b c. still_within (buffer_at d i) (l.within i b c));
+        within = by_slot (λ i x. configured x ≡ true → Within there (buffer_of x)) (λ c. new_within) (λ i n b c. still_within (buffer_at d i) (l.within i b c));
         apart =
             λ i j b b' n c c'.
-            by_slot (λ i x. x.configured ≡ true → (i ≡ j → ⊥) → Apart x.config.buffer (buffer_at there j))
+            by_slot (λ i x. configured x ≡ true → (i ≡ j → ⊥) → Apart (buffer_of x) (buffer_at there j))
             (λ c n. new_apart l j b' n c')
             (λ i m b c n. old_apart l i b c j b' n c')
             i
@@ -207,8 +206,8 @@ unfolding allocate_result placed or_else
 allocate_layout d incoming r l = go (allocate_check d incoming r) refl
   where
     go : (c : Check) → allocate_check d incoming r ≡ c → Layout (allocate_at c d incoming r).driver
-    go Fits e = with_layout d incoming r (accepted_request d incoming r e) l.slots l
-    go (Refused q) e = l
+    go (Ok tt) e = with_layout d incoming r (accepted_request d incoming r e) l.slots l
+    go (Err q) e = l
 
 -- Any sound driver is left sound, its layout whatever it is.
 pub allocate_keeps_sound : (d : Driver) (incoming : Bool) (r : EndpointRequest) → length d.endpoints ≡ 16 → driver_soundb d ≡ true
@@ -217,23 +216,30 @@ unfolding allocate_result placed or_else
 allocate_keeps_sound d incoming r sixteen h = go (allocate_check d incoming r) refl
   where
     go : (c : Check) → allocate_check d incoming r ≡ c → driver_soundb (allocate_at c d incoming r).driver ≡ true
-    go Fits e = driver_is (driver_with d incoming r) (with_facts d incoming r (accepted_request d incoming r e) sixteen)
-    go (Refused q) e = h
+    go (Ok tt) e = driver_is (driver_with d incoming r) (with_facts d incoming r (accepted_request d incoming r e) sixteen)
+    go (Err q) e = h
 
 asks_layout : (d : Driver) (qs : List Ask) → Layout d → Layout (after d qs)
 asks_layout d [] l = l
 asks_layout d (q ∷ qs) l = asks_layout (allocate_result d q.incoming q.request).driver qs (allocate_layout d q.incoming q.request l)
 
--- Whatever is asked of a new driver, its buffers lie apart, in its memory, behind EP0's, at multiples of 4.
-pub every_layout : (address length : ℕ) → new_check address length ≡ Fits → (qs : List Ask) → Layout (after (new_result address length).driver qs)
+made : (address length : ℕ) (d : Driver) → new_result address length ≡ Ok d → Layout d
 unfolding new_result or_else
-every_layout address length h qs = rw h (asks_layout (new_driver address length) qs (new_layout address length h))
+made address length d = go (new_check address length) refl
+  where
+    go : (c : Check) → new_check address length ≡ c → or_else c Err (Ok (new_driver address length)) ≡ Ok d → Layout d
+    go (Ok tt) h e = let same : new_driver address length ≡ d = cc in subst Layout same (new_layout address length h)
+    go (Err r) h e = absurd (cc)
+
+-- Whatever is asked of a new driver, its buffers lie apart, in its memory, behind EP0's, at multiples of 4.
+pub every_layout : (address length : ℕ) (d : Driver) → new_result address length ≡ Ok d → (qs : List Ask) → Layout (after d qs)
+every_layout address length d h qs = asks_layout d qs (made address length d h)
 
 -- And it is sound.
-pub every_driver_sound : (address length : ℕ) → new_check address length ≡ Fits → (qs : List Ask) → driver_soundb (after (new_result address length).driver qs) ≡ true
-every_driver_sound address length h qs = driver_is _ (every_layout address length h qs).facts
+pub every_driver_sound : (address length : ℕ) (d : Driver) → new_result address length ≡ Ok d → (qs : List Ask) → driver_soundb (after d qs) ≡ true
+every_driver_sound address length d h qs = driver_is _ (every_layout address length d h qs).facts
 
--- What a refused creation leaves is unsound, so that no call takes it.
+-- The driver without memory is unsound, so that no call takes it.
 pub no_driver_unsound : driver_soundb no_driver ≡ false
 unfolding driver_soundb every
 no_driver_unsound = refl

@@ -1,15 +1,17 @@
 -- That the words "lowest" and "next multiple of 4" are earned.
 -- Assumes nothing.
-use Rattle.std.specs.Prelude.{ℕ, zero, suc, ◌%◌, ◌≤◌, ◌<◌, Bool, true, false, ◌&&◌, ◌||◌, not, cond, ◌≡◌, refl, eqb}
+use Rattle.std.specs.Prelude.{ℕ, zero, suc, ◌%◌, ◌≤◌, ◌<◌, Bool, true, false, ◌&&◌, not, cond, ◌≡◌, refl, eqb, Option, Some, None}
 use Rattle.std.proofs.Common.{sym, arith, eqb-true}
 use Rattle.std.proofs.lemmas.Bool.{eqb-false, not-true}
+use Rattle.state.specs.declared.EndpointAddress.{EndpointAddress}
+use Rattle.state.specs.declared.EndpointConfig.{EndpointConfig}
 use Rattle.state.specs.declared.EndpointRequest.{EndpointRequest}
 use Rattle.state.specs.declared.Driver.{Driver}
-use Rattle.state_slots.specs.Slots.{slot_number}
+use Rattle.state_slots.specs.Slots.{slot_number, configured}
 use Rattle.state.specs.Fresh.{allocation_at}
-use Rattle.base.specs.EachLaws.{and_left, and_right, implied}
+use Rattle.base.specs.EachLaws.{and_left, and_right, true_not_false}
 use Rattle.driver_new.specs.New.{up4}
-use Rattle.driver_allocate.specs.Rules.{lowest, available, endpoint_for}
+use Rattle.driver_allocate.specs.Rules.{lowest, index_fits, available, endpoint_for}
 
 pub up4_above : (n : ℕ) → n ≤ up4 n
 up4_above n = omega arith
@@ -63,18 +65,25 @@ lowest_is p (suc n) = go (eqb (lowest p n) 0) refl (p (suc n)) refl (lowest_is p
 pub record Fitting (d : Driver) (incoming : Bool) (r : EndpointRequest) : Type 0 where
   pub least : 1 ≤ endpoint_for d incoming r
   pub most : endpoint_for d incoming r ≤ 7
-  pub free : (allocation_at d (slot_number (endpoint_for d incoming r) incoming)).configured ≡ false
-  pub requested : r.requested ≡ true → endpoint_for d incoming r ≡ r.index
+  pub free : allocation_at d (slot_number (endpoint_for d incoming r) incoming) ≡ None
+  pub requested : (a : EndpointAddress) → r.endpoint ≡ Some a → endpoint_for d incoming r ≡ a.index
+
+unallocated : (o : Option EndpointConfig) → configured o ≡ false → o ≡ None
+unallocated None h = refl
+unallocated (Some k) h = absurd (true_not_false h)
+
+asked : (o : Option EndpointAddress) (a : EndpointAddress) (e : ℕ) → o ≡ Some a → index_fits o e ≡ true → e ≡ a.index
+asked o a e q h = sym (eqb-true a.index e (rw q at h))
 
 pub fitting : (d : Driver) (incoming : Bool) (r : EndpointRequest) → (endpoint_for d incoming r ≡ 0 → ⊥) → Fitting d incoming r
 fitting d incoming r n =
     let e = endpoint_for d incoming r in
-    let l = lowest_is (available d incoming r.requested r.index) 7 in
+    let l = lowest_is (available d incoming r.endpoint) 7 in
     let t = l.true_of n in
-    let taken = (allocation_at d (slot_number e incoming)).configured in
+    let here = allocation_at d (slot_number e incoming) in
     record {
       least = omega (arith, n);
       most = l.within;
-      free = not-true taken (and_left (not taken) (not r.requested || eqb r.index e) t);
-      requested = λ q. sym (eqb-true r.index e (implied r.requested (eqb r.index e) q (and_right (not taken) (not r.requested || eqb r.index e) t)));
+      free = unallocated here (not-true (configured here) (and_left (not (configured here)) (index_fits r.endpoint e) t));
+      requested = λ a q. asked r.endpoint a e q (and_right (not (configured here)) (index_fits r.endpoint e) t);
     }

@@ -1,17 +1,12 @@
 -- Making a driver (reference: `Driver::new`).
 -- Assumes nothing.
-use Rattle.std.specs.Prelude.{ℕ, ◌+◌, ◌-◌, ◌*◌, ◌/◌, not, List, [], ◌∷◌, ltb, replicate}
+use Rattle.std.specs.Prelude.{ℕ, ◌+◌, ◌-◌, ◌*◌, ◌/◌, not, List, [], ◌∷◌, ltb, replicate, None, Result, Ok, Err}
 use Rattle.state.specs.declared.Driver.{Driver}
+use Rattle.state.specs.declared.Refusal.{Refusal}
 use Rattle.state.specs.declared.Refusal.TheVariants.{MemoryOutsideRam, MemoryTooSmall}
-use Rattle.state.specs.declared.Check.{Check}
-use Rattle.state.specs.Fresh.{no_allocation}
-use Rattle.state.specs.Numbers.{refusal_number}
-use Rattle.state.specs.Refusals.{Condition, ◌if◌, first_refusal}
+use Rattle.state.specs.Refusals.{Check, Condition, ◌if◌, first_refusal}
 use Rattle.state_sound.specs.Clauses.{in_ram}
 use Rattle.state_call.specs.Outcome.{or_else}
-use Rattle.driver_new.specs.declared.NewAnswer.{NewAnswer}
-use Rattle.driver_new.specs.declared.NewAnswer.TheVariants as new
-use Rattle.driver_new.specs.declared.NewResult.{NewResult}
 
 -- the next multiple of 4, n itself if it is one
 abbrev pub up4 : ℕ → ℕ
@@ -31,7 +26,7 @@ unfoldable pub new_check : ℕ → ℕ → Check
 new_check address length = first_refusal (new_conditions address length)
 
 abbrev pub empty_driver : ℕ → ℕ → ℕ → Driver
-empty_driver memory capacity used = record { memory = memory; capacity = capacity; used = used; endpoints = replicate 16 no_allocation }
+empty_driver memory capacity used = record { memory = memory; capacity = capacity; used = used; endpoints = replicate 16 None }
 
 -- nothing allocated but EP0's 512 bytes
 abbrev pub new_driver : ℕ → ℕ → Driver
@@ -41,11 +36,5 @@ new_driver address length = empty_driver (up4 address) (capacity_of address leng
 abbrev pub no_driver : Driver
 no_driver = empty_driver 0 0 0
 
-unfoldable pub new_result : ℕ → ℕ → NewResult
-new_result address length =
-    or_else (new_check address length) (λ r. record { answer = new.Refused r; driver = no_driver }) (record { answer = new.Made; driver = new_driver address length })
-
--- the number of an answer: 0 for a driver made, else the refusal's
-abbrev pub new_number : NewAnswer → ℕ
-new_number new.Made = 0
-new_number (new.Refused r) = refusal_number r
+unfoldable pub new_result : ℕ → ℕ → Result Driver Refusal
+new_result address length = or_else (new_check address length) Err (Ok (new_driver address length))

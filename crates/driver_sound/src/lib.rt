@@ -5,44 +5,43 @@ ghost use Rattle.std.specs.Prelude.{◌≡◌};
 ghost use Rattle.state_sound.specs.Sound.{driver_soundb, configb, memoryb, allocationsb};
 
 use state::{Driver, EndpointConfig};
+use state_sound::{config_fits, in_ram, is_aligned};
 
-// A configuration of slot i, where there is one.
-fn allocation_sound(i: usize, configured: bool, config: EndpointConfig) -> bool
-    ensures { result ≡ configb i configured config }
+// What is allocated for slot i.
+#[tactic(auto, unfolding(state_sound::specs::Sound::configb))]
+fn allocation_sound(i: usize, allocation: Option<EndpointConfig>) -> bool
+    ensures { result ≡ configb i allocation }
 {
-    if configured {
-        return state_sound::config_fits(i, config);
+    match allocation {
+        Some(config) => config_fits(i, config),
+        None => true,
     }
-    true
 }
 
 fn allocations_sound(driver: Driver) -> bool
     ensures { result ≡ allocationsb driver 16 }
 {
-    let mut ok = true;
-    let mut i: usize = 0;
-    while i < 16 {
-        let a = driver.endpoints[i];
-        let config = a.config;
-        let good = allocation_sound(i, a.configured, config);
-        ok = ok & good;
-        i = i + 1;
+    for i in 0..16 {
+        if !allocation_sound(i, driver.endpoints[i]) {
+            return false;
+        }
     }
-    ok
+    true
 }
 
+#[tactic(auto, unfolding(state_sound::specs::Sound::memoryb))]
 fn memory_sound(memory: u32, capacity: u32, used: u32) -> bool
     ensures { result ≡ memoryb memory capacity used }
 {
-    let inside = state_sound::in_ram(memory, capacity);
-    let even = state_sound::is_aligned(memory);
-    inside & ((512 <= capacity) & (even & ((512 <= used) & (used <= capacity))))
+    in_ram(memory, capacity)
+        && 512 <= capacity
+        && is_aligned(memory)
+        && 512 <= used
+        && used <= capacity
 }
 
 pub fn driver_sound(driver: Driver) -> bool
     ensures { result ≡ driver_soundb driver }
 {
-    let endpoints = allocations_sound(driver);
-    let memory = memory_sound(driver.memory, driver.capacity, driver.used);
-    endpoints & memory
+    allocations_sound(driver) && memory_sound(driver.memory, driver.capacity, driver.used)
 }

@@ -1,16 +1,16 @@
 -- Starting a driver (reference: `start` of device.rs).
 -- Assumes nothing.
-use Rattle.std.specs.Prelude.{ℕ, false, ◌&&◌, not, List, [], ◌∷◌, eqb}
+use Rattle.std.specs.Prelude.{ℕ, false, ◌&&◌, not, List, [], ◌∷◌, eqb, Option, Result, Ok, Err}
 use Rattle.base.specs.Each.{change}
+use Rattle.state.specs.declared.EndpointConfig.{EndpointConfig}
 use Rattle.state.specs.declared.Slot.{Slot}
-use Rattle.state.specs.declared.Allocation.{Allocation}
 use Rattle.state.specs.declared.State.{State}
 use Rattle.state.specs.declared.Events.{Events}
 use Rattle.state.specs.declared.Driver.{Driver}
+use Rattle.state.specs.declared.Refusal.{Refusal}
 use Rattle.state.specs.declared.Refusal.TheVariants.{ControlPacketSize}
 use Rattle.state.specs.Fresh.{allocation_at}
 use Rattle.state.specs.Setters.{with_slots, with_power, unasked}
-use Rattle.state.specs.Numbers.{refusal_number}
 use Rattle.state.specs.Refusals.{Condition, ◌if◌, first_refusal}
 use Rattle.state_slots.specs.Slots.{off_slot}
 use Rattle.state_slots.specs.Waking.{no_wakes}
@@ -18,21 +18,10 @@ use Rattle.state_events.specs.Bytes.{power}
 use Rattle.state_sound.specs.Sound.{soundb, driver_soundb}
 use Rattle.state_call.specs.Turn.{turn_of}
 use Rattle.state_call.specs.Outcome.{Outcome, unless}
-use Rattle.driver_start.specs.declared.StartAnswer.{StartAnswer}
-use Rattle.driver_start.specs.declared.StartAnswer.TheVariants as start
 
 -- a slot gets what the driver allocated for it
-abbrev pub configured_slot : Slot → Allocation → Slot
-configured_slot x a =
-    record {
-      configured = a.configured;
-      config = a.config;
-      enabled = x.enabled;
-      stalled = x.stalled;
-      phase = x.phase;
-      transfer = x.transfer;
-      tally = x.tally;
-    }
+abbrev pub configured_slot : Slot → Option EndpointConfig → Slot
+configured_slot x o = record x { config = o }
 
 -- once it is off
 abbrev pub started_slot : Driver → ℕ → Slot → Slot
@@ -54,12 +43,7 @@ abbrev pub start_conditions : State → Events → Driver → ℕ → List Condi
 start_conditions s v d size = turn_of (soundb s v && driver_soundb d) s.awaited.next (start_own size)
 
 -- POWER is pending alone
-unfoldable pub start_call : State → Events → Driver → ℕ → Outcome StartAnswer
+unfoldable pub start_call : State → Events → Driver → ℕ → Outcome (Result Unit Refusal)
 start_call s v d size =
-    unless start.Refused (first_refusal (start_conditions s v d size)) s v
-    (record { answer = start.Started; state = started_state s d; events = record { events = power }; ops = []; wakes = no_wakes; copied = [] })
-
--- the number of an answer: 0 for a driver started, else the refusal's
-abbrev pub start_number : StartAnswer → ℕ
-start_number start.Started = 0
-start_number (start.Refused r) = refusal_number r
+    unless Err (first_refusal (start_conditions s v d size)) s v
+    (record { answer = Ok tt; state = started_state s d; events = record { events = power }; ops = []; wakes = no_wakes; copied = [] })

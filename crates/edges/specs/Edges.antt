@@ -1,12 +1,13 @@
 -- Document 01's starred edges: each row has what the definitions give, and what the paper says.
 -- Assumes nothing.
-use Rattle.std.specs.Prelude.{ℕ, ◌^◌, Bool, true, false, cond, List, [], ◌∷◌, ◌++◌, map, ◌≡◌, eqb}
-use Rattle.ops.specs.Numbers.{tx_chain_exp_nump, tx_chain_len}
+use Rattle.std.specs.Prelude.{ℕ, ◌^◌, Bool, true, false, cond, List, [], ◌∷◌, ◌++◌, map, ◌≡◌, eqb, Some, None, Result, Ok, Err}
+use Rattle.ops.specs.declared.numbers.Register.{Register}
+use Rattle.ops.specs.Numbers.{register_number, tx_chain_exp_nump, tx_chain_len}
 use Rattle.ops.specs.Ops.{Op, write, modify, modify_if_differs, wait, clear_bits, Setting, ◌≔◌, list_numbers}
-use Rattle.state.specs.declared.Phase.TheVariants.{Idle}
 use Rattle.state.specs.declared.Slot.{Slot}
 use Rattle.state.specs.declared.State.{State}
 use Rattle.state.specs.declared.Events.{Events}
+use Rattle.state.specs.declared.Refusal.{Refusal}
 use Rattle.state.specs.Fresh.{fresh_slot, fresh_state}
 use Rattle.state.specs.Setters.{with_slot, with_power}
 use Rattle.state_slots.specs.Slots.{slot_number, slot_of}
@@ -14,12 +15,14 @@ use Rattle.state.specs.declared.EndpointType.{EndpointType}
 use Rattle.state.specs.declared.EndpointType.TheVariants.{Bulk, Interrupt}
 use Rattle.state.specs.declared.EndpointRequest.{EndpointRequest}
 use Rattle.state.specs.declared.Driver.{Driver}
+use Rattle.state.specs.Numbers.{check_number}
 use Rattle.state.specs.Refusals.{first_refusal}
 use Rattle.state_events.specs.Bytes.{suspend, resume}
-use Rattle.driver_new.specs.New.{new_result, new_number}
+use Rattle.driver_new.specs.New.{no_driver, new_result}
 use Rattle.driver_allocate.specs.Allocate.{allocate_result, allocate_numbers}
 use Rattle.transfer_begin.specs.Begin.{begin_call}
-use Rattle.transfer_piece.specs.Piece.{Piece, piece}
+use Rattle.transfer_piece.specs.declared.Piece.{Piece}
+use Rattle.transfer_piece.specs.Piece.{piece}
 use Rattle.transfer_report.specs.Report.{report_state, report_ops}
 use Rattle.transfer_take.specs.Take.{take_own, take_numbers, took_at}
 use Rattle.bus_events.specs.Raise.{raise_call}
@@ -38,9 +41,7 @@ found gives paper = record { found = found; paper = paper }
 abbrev ask : EndpointType → ℕ → ℕ → EndpointRequest
 ask kind size interval =
     record {
-      requested = false;
-      index = 0;
-      incoming = false;
+      endpoint = None;
       ep_type = kind;
       max_packet_size = size;
       interval_ms = interval;
@@ -49,9 +50,14 @@ ask kind size interval =
       mult = 0;
     }
 
+-- the driver that was made, if one was
+abbrev made_of : Result Driver Refusal → Driver
+made_of (Ok d) = d
+made_of (Err r) = no_driver
+
 -- a driver with so many bytes from the start of RAM on
 abbrev driver : ℕ → Driver
-driver capacity = (new_result 0x200A0000 capacity).driver
+driver capacity = made_of (new_result 0x200A0000 capacity)
 
 -- an IN endpoint of it
 abbrev given : Driver → EndpointRequest → List ℕ
@@ -61,7 +67,7 @@ abbrev after_interrupt : ℕ → Driver
 after_interrupt capacity = (allocate_result (driver capacity) true (ask Interrupt 1 1)).driver
 
 abbrev made : ℕ → ℕ → List ℕ
-made address length = new_number (new_result address length).answer ∷ []
+made address length = check_number (new_result address length) ∷ []
 
 abbrev nothing_pending : Events
 nothing_pending = record { events = 0 }
@@ -77,23 +83,18 @@ polled v = poll_numbers (poll_call fresh_state v).answer
 abbrev prepared : Bool → State
 prepared incoming =
     with_slot (with_power fresh_state (record { memory = 0; on = true; revision = 0 })) (slot_number 1 incoming)
-    (record {
-      configured = true;
+    (record fresh_slot {
+      enabled = true;
       config =
-          record {
-            index = 1;
-            incoming = incoming;
+          Some
+          (record {
+            endpoint = record { index = 1; incoming = incoming };
             ep_type = Bulk;
             max_packet_size = 1024;
             interval_ms = 0;
             max_burst = 0;
             buffer = record { address = 0x200A0000; size = 1024 };
-          };
-      enabled = true;
-      stalled = false;
-      phase = Idle;
-      transfer = fresh_slot.transfer;
-      tally = fresh_slot.tally;
+          });
     })
 
 -- a transfer of so many bytes, begun on it
@@ -110,9 +111,9 @@ begun_by bytes = (begin_call list_numbers (prepared true) nothing_pending 1 true
 abbrev value_of : Setting → ℕ
 value_of (f ≔ v) = v
 
-abbrev written : ℕ → List Op → List ℕ
+abbrev written : Register → List Op → List ℕ
 written r [] = []
-written r (write q i s ss ∷ os) = cond (eqb r q) (value_of s ∷ written r os) (written r os)
+written r (write q i s ss ∷ os) = cond (eqb (register_number r) (register_number q)) (value_of s ∷ written r os) (written r os)
 written r (modify q i s ss ∷ os) = written r os
 written r (modify_if_differs q i s ∷ os) = written r os
 written r (wait n ∷ os) = written r os

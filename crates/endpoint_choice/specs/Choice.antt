@@ -4,9 +4,11 @@
 use Rattle.std.specs.Prelude.{ℕ, ◌+◌, ◌*◌, ◌-◌, ◌/◌, min, max, Bool, false, ◌&&◌, ◌||◌, not, cond, eqb, leb, ltb}
 use Rattle.base.specs.Ceil.{div_ceil}
 use Rattle.state.specs.declared.Slot.{Slot}
-use Rattle.state_slots.specs.Slots.{slot_size}
+use Rattle.state_slots.specs.Slots.{configured, slot_size, own_buffer}
 use Rattle.state_sound.specs.Clauses.{in_ram, aligned, multiple}
-use Rattle.transfer_piece.specs.Piece.{Piece, piece}
+use Rattle.transfer_piece.specs.declared.Piece.{Piece}
+use Rattle.transfer_piece.specs.Piece.{piece}
+use Rattle.endpoint_choice.specs.declared.MoveRequest.{MoveRequest}
 use Rattle.endpoint_choice.specs.declared.Asked.{Asked}
 use Rattle.endpoint_choice.specs.declared.Choice.{Choice}
 
@@ -15,6 +17,10 @@ use Rattle.endpoint_choice.specs.declared.Choice.{Choice}
 -- many of them the pieces before have moved.
 abbrev pub asked : Bool → Bool → ℕ → ℕ → ℕ → Asked
 asked single zlp address length position = record { single = single; needs_zlp = zlp; address = address; length = length; position = position }
+
+-- by a request, where so many bytes are lent
+abbrev pub asked_of : MoveRequest → ℕ → Asked
+asked_of r length = asked r.single r.needs_zlp r.address length r.position
 
 -- a position above the length is taken as the length
 abbrev pub place : Asked → ℕ
@@ -38,11 +44,11 @@ closes x k = cond k.single (eqb k.length 0) (k.needs_zlp && multiple k.length (s
 
 -- refusal 9: `write` above a packet. Without a configuration there is no packet size.
 abbrev pub longer : Slot → Asked → Bool
-longer x k = (k.single && x.configured) && ltb (slot_size x) k.length
+longer x k = (k.single && configured x.config) && ltb (slot_size x) k.length
 
 -- refusal 8: a lent own buffer of another address or length than the state's
 abbrev pub own_unfit : Slot → ℕ → ℕ → Bool
-own_unfit x address size = not (eqb address x.config.buffer.address && eqb size x.config.buffer.size)
+own_unfit x address size = not (eqb address (own_buffer x).address && eqb size (own_buffer x).size)
 
 -- A send goes straight from the caller's bytes if the controller reaches all of them.
 abbrev pub send_direct : Asked → Bool
@@ -53,7 +59,7 @@ send_direct k = ltb 0 (rest k) && reaches k.address k.length
 abbrev pub send_piece : Slot → Asked → Piece
 send_piece x k =
     cond (send_direct k) (piece (k.address + place k) (rest k) (closes x k))
-    (piece x.config.buffer.address (min x.config.buffer.size (rest k)) false)
+    (piece (own_buffer x).address (min (own_buffer x).size (rest k)) false)
 
 -- a transfer is begun while bytes are left, and for the closing packet of what was copied
 abbrev pub send_begins : Slot → Asked → Bool
@@ -71,18 +77,18 @@ own_room size m left = min size (max m (div_ceil left m * m))
 abbrev pub receive_room : Slot → Asked → ℕ
 receive_room x k =
     cond k.single (slot_size x)
-    (cond (receive_direct x k) (rest k / slot_size x * slot_size x) (own_room x.config.buffer.size (slot_size x) (rest k)))
+    (cond (receive_direct x k) (rest k / slot_size x * slot_size x) (own_room (own_buffer x).size (slot_size x) (rest k)))
 
 abbrev pub receive_piece : Slot → Asked → Piece
-receive_piece x k = piece (cond (receive_direct x k) (k.address + place k) x.config.buffer.address) (receive_room x k) false
+receive_piece x k = piece (cond (receive_direct x k) (k.address + place k) (own_buffer x).address) (receive_room x k) false
 
 -- a piece, and whether it is a part of the caller's bytes
 abbrev pub choice : Piece → Bool → Choice
-choice p direct = record { address = p.address; length = p.length; zlp = p.flag; direct = direct }
+choice p direct = record { piece = p; direct = direct }
 
 -- whether a transfer goes by way of the own buffer is told by its address
 abbrev pub own_transfer : Slot → Bool
-own_transfer x = eqb x.transfer.address x.config.buffer.address
+own_transfer x = eqb x.transfer.address (own_buffer x).address
 
 -- no transfer has more bytes
 abbrev pub any_length : ℕ

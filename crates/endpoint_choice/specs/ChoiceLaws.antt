@@ -1,7 +1,7 @@
 -- The choice of a piece: what the controller reaches, and how long a piece is.
 -- Assumes nothing.
-use Rattle.std.specs.Prelude.{ℕ, zero, suc, ◌+◌, ◌*◌, ◌-◌, ◌/◌, ◌≤◌, ◌<◌, min, max, Bool, true, false, ◌&&◌, ◌≡◌, refl, leb, ltb}
-use Rattle.std.proofs.Common.{sym, ◌∙◌, mul-le-mul, div-mul-le_self, arith, ltb-true, leb-true, leb-false}
+use Rattle.std.specs.Prelude.{ℕ, zero, suc, ◌+◌, ◌*◌, ◌/◌, ◌≤◌, ◌<◌, min, Bool, true, false, ◌&&◌, ◌≡◌, refl, leb, ltb}
+use Rattle.std.proofs.Common.{sym, mul-le-mul, div-mul-le_self, arith, ltb-true, leb-true, leb-false}
 use Rattle.std.proofs.lemmas.Bool.{lt-leb}
 use Rattle.base.specs.Ceil.{div_ceil}
 use Rattle.base.specs.CeilLaws.{ceil_above, ceil_by_zero}

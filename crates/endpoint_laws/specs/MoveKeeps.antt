@@ -1,27 +1,22 @@
 -- The calls of sends and receives keep the state sound, and the account of every data slot.
 -- Assumes nothing.
-use Rattle.std.specs.Prelude.{ℕ, Bool, List, ◌≡◌, length}
+use Rattle.std.specs.Prelude.{ℕ, Bool, List, ◌≡◌, length, Ok, Err, Option, Result}
 use Rattle.std.proofs.Math.Bool.{true, false}
 use Rattle.std.proofs.Math.Path.{refl}
 use Rattle.std.proofs.Common.{subst, ◌∙◌}
 use Rattle.state.specs.declared.State.{State}
 use Rattle.state.specs.declared.Events.{Events}
-use Rattle.state.specs.declared.Check.{Check}
-use Rattle.state.specs.declared.Check.TheVariants.{Fits, Refused}
+use Rattle.state.specs.declared.Refusal.{Refusal}
 use Rattle.state.specs.Fresh.{slot_at}
-use Rattle.state.specs.Refusals.{first_refusal}
+use Rattle.state.specs.Refusals.{Check, first_refusal}
 use Rattle.state_slots.specs.Slots.{slot_of}
 use Rattle.state_sound.specs.Sound.{soundb}
 use Rattle.state_slots.specs.Tally.{SameDifference}
 use Rattle.state_call.specs.Outcome.{Outcome, or_else, refusal}
 use Rattle.state_call.specs.OutcomeLaws.{or_part, or_same}
 use Rattle.state_laws.specs.TallyLaws.{unmoved_difference}
-use Rattle.transfer_piece.specs.Piece.{Piece}
-use Rattle.transfer_begin.specs.declared.BeginAnswer.{BeginAnswer}
-use Rattle.transfer_begin.specs.declared.BeginAnswer.TheVariants as begin
+use Rattle.transfer_piece.specs.declared.Piece.{Piece}
 use Rattle.transfer_begin.specs.Begin.{begin_conditions, begin_call}
-use Rattle.transfer_take.specs.declared.TakeAnswer.{TakeAnswer}
-use Rattle.transfer_take.specs.declared.TakeAnswer.TheVariants as take
 use Rattle.transfer_take.specs.Take.{take_conditions, take_call}
 use Rattle.transfer_laws.specs.BeginKeeps.{begin_keeps_sound, begin_keeps_account}
 use Rattle.transfer_laws.specs.FinishKeeps.{take_keeps_sound, take_keeps_account}
@@ -37,13 +32,13 @@ begin_events : (room : ℕ) (s : State) (v : Events) (e : ℕ) (incoming : Bool)
 unfolding begin_call
 begin_events room s v e incoming p long unfit =
     let c = first_refusal (begin_conditions room s v e incoming p long unfit) in
-    or_part {B = Outcome BeginAnswer} (λ u. u.events) c (λ r. refusal (begin.Refused r) s v) _ ∙ or_same c v
+    or_part {B = Outcome (Result Unit Refusal)} (λ u. u.events) c (λ r. refusal (Err r) s v) _ ∙ or_same c v
 
 take_events : (s : State) (v : Events) (e : ℕ) (incoming unfit : Bool) (most : ℕ) → (take_call s v e incoming unfit most).events ≡ v
 unfolding take_call
 take_events s v e incoming unfit most =
     let c = first_refusal (take_conditions s v e incoming unfit) in
-    or_part {B = Outcome TakeAnswer} (λ u. u.events) c (λ r. refusal (take.Refused r) s v) _ ∙ or_same c v
+    or_part {B = Outcome (Result (Option ℕ) Refusal)} (λ u. u.events) c (λ r. refusal (Err r) s v) _ ∙ or_same c v
 
 begun_sound : (room : ℕ) (s : State) (v : Events) (e : ℕ) (incoming : Bool) (p : Piece) (long unfit : Bool) → soundb s v ≡ true → soundb (begin_call room s v e incoming p long unfit).state v ≡ true
 begun_sound room s v e incoming p long unfit h =
@@ -61,9 +56,9 @@ module _ (P : State → Type 0) (room : ℕ) (s : State) (v : Events) (e : ℕ) 
   send_state before begun = go (first_refusal (send_conditions room s v e k own_address own_size)) (send_begins (slot_of s e true) k) refl refl
     where
       go : (c : Check) (b : Bool) → first_refusal (send_conditions room s v e k own_address own_size) ≡ c → send_begins (slot_of s e true) k ≡ b → P (send_call room s v e k bytes own_address own_size).state
-      go (Refused r) b h g = rw h before
-      go Fits false h g = rw (h, g) before
-      go Fits true h g = rw (h, g) (rw h at begun)
+      go (Err r) b h g = rw h before
+      go (Ok tt) false h g = rw (h, g) before
+      go (Ok tt) true h g = rw (h, g) (rw h at begun)
 
   receive_state : P s → P (begin_call room s v e false (receive_piece (slot_of s e false) k) false (own_unfit (slot_of s e false) own_address own_size)).state
       → P (receive_call room s v e k own_address own_size).state
@@ -71,8 +66,8 @@ module _ (P : State → Type 0) (room : ℕ) (s : State) (v : Events) (e : ℕ) 
   receive_state before begun = go (first_refusal (receive_conditions room s v e k own_address own_size)) refl
     where
       go : (c : Check) → first_refusal (receive_conditions room s v e k own_address own_size) ≡ c → P (receive_call room s v e k own_address own_size).state
-      go (Refused r) h = rw h before
-      go Fits h = rw h (rw h at begun)
+      go (Err r) h = rw h before
+      go (Ok tt) h = rw h (rw h at begun)
 
 -- They keep what 26 doesn't refuse.
 module _ (room : ℕ) (s : State) (v : Events) (e : ℕ) (k : Asked) (bytes : List ℕ) (own_address own_size : ℕ) where

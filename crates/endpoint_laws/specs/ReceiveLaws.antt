@@ -1,21 +1,19 @@
 -- Over all pieces of a receive, the caller's bytes hold what came, in sequence, and nothing behind it is touched.
 -- Assumes nothing.
-use Rattle.std.specs.Prelude.{ℕ, ◌+◌, ◌*◌, ◌-◌, ◌/◌, ◌≤◌, ◌<◌, Bool, true, false, ◌||◌, not, cond, List, [], ◌∷◌, ◌++◌, ◌≡◌, refl, eqb, ltb, length, take, drop}
+use Rattle.std.specs.Prelude.{ℕ, ◌+◌, ◌*◌, ◌-◌, ◌/◌, ◌≤◌, ◌<◌, Bool, true, false, ◌||◌, not, cond, List, [], ◌++◌, ◌≡◌, refl, eqb, ltb, length, take, drop}
 use Rattle.std.proofs.Common.{append-nil, append_assoc, ap, sym, subst, ◌∙◌, add-zero, le-div_iff_mul-le, mul-le-mul_right, arith, ltb-false, length-append, length-drop, take-append-drop, drop-drop, length-take-le}
 use Rattle.std.proofs.lemmas.Bool.{eqb-false}
 use Rattle.std.proofs.Math.Seq.{take-append_seam, drop-append_seam, take-append-add}
 use Rattle.base.specs.EachLaws.{true_not_false}
 use Rattle.state.specs.declared.Slot.{Slot}
-use Rattle.state_slots.specs.Slots.{slot_size}
-use Rattle.transfer_take.specs.declared.TakeAnswer.TheVariants as answer
+use Rattle.state_slots.specs.Slots.{slot_size, own_buffer}
 use Rattle.endpoint_parts.specs.Parts.{part, piece_of, put}
 use Rattle.endpoint_parts.specs.PartsLaws.{part_whole}
 use Rattle.endpoint_choice.specs.declared.Asked.{Asked}
 use Rattle.endpoint_choice.specs.Choice.{place, rest, place_after, own_room, receive_direct, receive_room}
 use Rattle.endpoint_choice.specs.ChoiceLaws.{receive_reached}
-use Rattle.endpoint_answer.specs.declared.MoveAnswer.{MoveAnswer}
-use Rattle.endpoint_answer.specs.declared.MoveAnswer.TheVariants as move
-use Rattle.endpoint_received.specs.Received.{received_says}
+use Rattle.endpoint_answer.specs.declared.Move.TheVariants as move
+use Rattle.endpoint_received.specs.Received.{received_next}
 use Rattle.endpoint_laws.specs.Sends.{together}
 use Rattle.endpoint_laws.specs.SendLaws.{told, goes_on}
 use Rattle.endpoint_laws.specs.Receives.{stored, Receives, nothing, then}
@@ -104,10 +102,10 @@ behind_kept {end = end} {p = p} {before = before} (then n far by_own bytes own s
     behind_kept more ∙ drop_more (stored by_own bytes own p n) bytes (p + n) end (omega (arith, reach, inside)) kept.behind ∙ drop_more bytes before (p + far) end inside behind
 
 -- a packet at least, where the own buffer holds one
-pub room_some : (x : Slot) (k : Asked) → 0 < slot_size x → slot_size x ≤ x.config.buffer.size → 0 < receive_room x k
+pub room_some : (x : Slot) (k : Asked) → 0 < slot_size x → slot_size x ≤ (own_buffer x).size → 0 < receive_room x k
 room_some x k some one = go k.single (receive_direct x k) refl
   where
-    go : (b d : Bool) → receive_direct x k ≡ d → 0 < cond b (slot_size x) (cond d (rest k / slot_size x * slot_size x) (own_room x.config.buffer.size (slot_size x) (rest k)))
+    go : (b d : Bool) → receive_direct x k ≡ d → 0 < cond b (slot_size x) (cond d (rest k / slot_size x * slot_size x) (own_room (own_buffer x).size (slot_size x) (rest k)))
     go true d e = some
     go false true e =
         let f = receive_reached x k e in
@@ -116,7 +114,7 @@ room_some x k some one = go k.single (receive_direct x k) refl
     go false false e = omega (arith, some, one)
 
 -- The loop of pieces ends: one that goes on has moved the caller on, and not to the end of its bytes.
-pub received_on : (x : Slot) (k : Asked) (n q : ℕ) → 0 < x.transfer.length → received_says x k (answer.Taken n) ≡ move.More q → (place k < q) × (q < k.length)
+pub received_on : (x : Slot) (k : Asked) (n q : ℕ) → 0 < x.transfer.length → received_next x k n ≡ move.More q → (place k < q) × (q < k.length)
 received_on x k n q some e = go k.single (ltb n x.transfer.length) (eqb (place_after k n) k.length) refl refl e
   where
     go : (b l f : Bool) → ltb n x.transfer.length ≡ l → eqb (place_after k n) k.length ≡ f

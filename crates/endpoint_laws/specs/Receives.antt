@@ -1,13 +1,12 @@
 -- The pieces of a receive, one after the other.
 -- Assumes nothing.
-use Rattle.std.specs.Prelude.{ℕ, ◌+◌, ◌≤◌, Bool, true, false, not, cond, List, [], ◌∷◌, ◌≡◌, length, take, drop}
-use Rattle.transfer_take.specs.declared.TakeAnswer.TheVariants as answer
+use Rattle.std.specs.Prelude.{ℕ, ◌+◌, ◌≤◌, Bool, true, not, List, [], ◌∷◌, ◌≡◌, length, take, drop, Some, Ok}
 use Rattle.endpoint_parts.specs.Parts.{part, piece_of, put}
 use Rattle.endpoint_received.specs.Received.{brought_by}
 
 -- the caller's bytes after `received` took n bytes at a place
 abbrev pub stored : Bool → List ℕ → List ℕ → ℕ → ℕ → List ℕ
-stored by_own bytes own p n = put bytes p (part own 0 (brought_by by_own (answer.Taken n)))
+stored by_own bytes own p n = put bytes p (part own 0 (brought_by by_own (Ok (Some n))))
 
 -- The pieces that came, from a position on, and the caller's bytes before and behind them. A piece is what the controller
 -- wrote: to the own buffer, or to the caller's bytes from the position on, at most `far` of them. None of this goes beyond `end`.

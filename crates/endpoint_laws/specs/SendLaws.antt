@@ -1,31 +1,29 @@
 -- Over all pieces of a send, the bytes handed to the controller are the caller's, in sequence, each once.
 -- Assumes nothing.
-use Rattle.std.specs.Prelude.{ℕ, zero, suc, ◌+◌, ◌-◌, ◌≤◌, ◌<◌, min, Bool, true, false, ◌&&◌, ◌||◌, not, cond, List, [], ◌∷◌, ◌++◌, ◌≡◌, refl, ltb, length, take, drop}
-use Rattle.std.proofs.Common.{append-nil, ap, sym, ◌∙◌, zero-add, arith, ltb-true, ltb-false, lt-ltb, eq-eqb, take-append-drop, drop_of_length-le, drop-drop, take_all}
+use Rattle.std.specs.Prelude.{ℕ, zero, suc, ◌+◌, ◌≤◌, ◌<◌, min, Bool, true, false, ◌&&◌, ◌||◌, cond, List, [], ◌∷◌, ◌++◌, ◌≡◌, refl, ltb, length, drop}
+use Rattle.std.proofs.Common.{ap, sym, ◌∙◌, zero-add, arith, ltb-true, ltb-false, eq-eqb, take-append-drop, drop_of_length-le, drop-drop}
 use Rattle.std.proofs.Math.Seq.{drop-length}
 use Rattle.base.specs.Bits.{bit}
 use Rattle.base.specs.EachLaws.{and_right, true_not_false}
 use Rattle.state.specs.declared.Slot.{Slot}
+use Rattle.state_slots.specs.Slots.{own_buffer}
 use Rattle.transfer_piece.specs.Piece.{piece}
 use Rattle.endpoint_choice.specs.declared.Asked.{Asked}
 use Rattle.endpoint_choice.specs.Choice.{place, rest, place_after, reaches, closes, send_direct, send_piece, send_begins, own_transfer}
-use Rattle.endpoint_parts.specs.Parts.{part}
 use Rattle.endpoint_parts.specs.PartsLaws.{part_whole}
-use Rattle.endpoint_answer.specs.declared.MoveAnswer.{MoveAnswer}
-use Rattle.endpoint_answer.specs.declared.MoveAnswer.TheVariants as move
+use Rattle.endpoint_answer.specs.declared.Move.{Move}
+use Rattle.endpoint_answer.specs.declared.Move.TheVariants as move
 use Rattle.endpoint_sent.specs.Sent.{sent_next}
 use Rattle.endpoint_laws.specs.Sends.{standing, handed, sent_slot, sent_then, Sends, nothing, last, then, Ends, together, emptyb, empties}
 
 -- where an answer says that the caller stands, and whether more is to come
-abbrev pub told : MoveAnswer → ℕ
-told (move.Refused r) = 0
+abbrev pub told : Move → ℕ
 told (move.Begun n) = 0
 told move.Busy = 0
 told (move.More n) = n
 told (move.Ended n) = n
 
-abbrev pub goes_on : MoveAnswer → Bool
-goes_on (move.Refused r) = false
+abbrev pub goes_on : Move → Bool
 goes_on (move.Begun n) = false
 goes_on move.Busy = false
 goes_on (move.More n) = true
@@ -87,13 +85,13 @@ module _ (x : Slot) (k : Asked) (bytes : List ℕ) (size : k.length ≡ length b
       let here : place (standing k q) ≡ place_after (standing k p) n = omega (arith, to) in
       ap (λ l. handed x (standing k p) bytes ++ l) (all_sent s ∙ rw here) ∙ joined p
 
-module _ (x : Slot) (k : Asked) (bytes : List ℕ) (holds : 0 < x.config.buffer.size) where
+module _ (x : Slot) (k : Asked) (bytes : List ℕ) (holds : 0 < (own_buffer x).size) where
   -- a piece has a byte where one is left
   piece_some : (p : ℕ) → 0 < rest (standing k p) → 0 < (send_piece x (standing k p)).length
   piece_some p h = go (send_direct (standing k p))
     where
       go : (d : Bool)
-          → 0 < (cond d (piece (k.address + place (standing k p)) (rest (standing k p)) (closes x k)) (piece x.config.buffer.address (min x.config.buffer.size (rest (standing k p))) false)).length
+          → 0 < (cond d (piece (k.address + place (standing k p)) (rest (standing k p)) (closes x k)) (piece (own_buffer x).address (min (own_buffer x).size (rest (standing k p))) false)).length
       go true = h
       go false = omega (arith, h, holds)
 
@@ -102,7 +100,7 @@ module _ (x : Slot) (k : Asked) (bytes : List ℕ) (holds : 0 < x.config.buffer.
   piece_none p h = go (send_direct (standing k p))
     where
       go : (d : Bool)
-          → (cond d (piece (k.address + place (standing k p)) (rest (standing k p)) (closes x k)) (piece x.config.buffer.address (min x.config.buffer.size (rest (standing k p))) false)).length ≡ 0
+          → (cond d (piece (k.address + place (standing k p)) (rest (standing k p)) (closes x k)) (piece (own_buffer x).address (min (own_buffer x).size (rest (standing k p))) false)).length ≡ 0
       go true = h
       go false = omega (arith, h)
 
@@ -151,7 +149,7 @@ empty_some [] h = absurd (omega (arith, h))
 empty_some (byte ∷ l) h = refl
 
 -- What the controller doesn't reach is copied.
-module _ (x : Slot) (k : Asked) (bytes : List ℕ) (holds : 0 < x.config.buffer.size) (size : k.length ≡ length bytes) (far : reaches k.address k.length ≡ false) where
+module _ (x : Slot) (k : Asked) (bytes : List ℕ) (holds : 0 < (own_buffer x).size) (size : k.length ≡ length bytes) (far : reaches k.address k.length ≡ false) where
   copied : (p : ℕ) → send_direct (standing k p) ≡ false
   copied p = rw far (go (ltb 0 (rest (standing k p))))
     where
@@ -161,11 +159,11 @@ module _ (x : Slot) (k : Asked) (bytes : List ℕ) (holds : 0 < x.config.buffer.
 
   -- so it goes by way of the own buffer
   by_own : (p : ℕ) → own_transfer (sent_slot x (standing k p)) ≡ true
-  by_own p = rw (copied p) (eq-eqb x.config.buffer.address x.config.buffer.address refl)
+  by_own p = rw (copied p) (eq-eqb (own_buffer x).address (own_buffer x).address refl)
 
   -- a piece is empty where nothing is left
   long : (p : ℕ) → length (handed x (standing k p) bytes) ≡ (send_piece x (standing k p)).length
-  long p = rw (copied p) (part_whole bytes (place (standing k p)) (min x.config.buffer.size (rest (standing k p))) (omega (arith, size)))
+  long p = rw (copied p) (part_whole bytes (place (standing k p)) (min (own_buffer x).size (rest (standing k p))) (omega (arith, size)))
 
   full : (p : ℕ) → 0 < (send_piece x (standing k p)).length → bit (emptyb (handed x (standing k p) bytes)) ≡ 0
   full p h = rw (empty_some (handed x (standing k p) bytes) (rw (long p) h))

@@ -7,14 +7,14 @@ use Rattle.state.specs.declared.Slot.{Slot}
 use Rattle.state_slots.specs.Slots.{moved_slot}
 use Rattle.endpoint_parts.specs.Parts.{part}
 use Rattle.endpoint_choice.specs.declared.Asked.{Asked}
-use Rattle.endpoint_choice.specs.Choice.{asked, place, send_piece, send_begins}
-use Rattle.endpoint_answer.specs.declared.MoveAnswer.{MoveAnswer}
-use Rattle.endpoint_answer.specs.declared.MoveAnswer.TheVariants as move
+use Rattle.endpoint_choice.specs.Choice.{place, send_piece, send_begins}
+use Rattle.endpoint_answer.specs.declared.Move.{Move}
+use Rattle.endpoint_answer.specs.declared.Move.TheVariants as move
 use Rattle.endpoint_sent.specs.Sent.{sent_next}
 
 -- what the caller asks for, from another position
 abbrev pub standing : Asked → ℕ → Asked
-standing k p = asked k.single k.needs_zlp k.address k.length p
+standing k p = record k { position = p }
 
 -- the caller's bytes of the next piece
 abbrev pub handed : Slot → Asked → List ℕ → List ℕ
@@ -24,7 +24,7 @@ handed x k bytes = part bytes (place k) (send_piece x k).length
 abbrev pub sent_slot : Slot → Asked → Slot
 sent_slot x k = moved_slot x Done (record { address = (send_piece x k).address; length = (send_piece x k).length; progress = (send_piece x k).length; zlp = false })
 
-abbrev pub sent_then : Slot → Asked → MoveAnswer
+abbrev pub sent_then : Slot → Asked → Move
 sent_then x k = sent_next (sent_slot x k) k (send_piece x k).length
 
 -- The bytes of the pieces from a position on. A piece is begun where `send` begins one and taken when it is sent; `sent`

@@ -6,15 +6,18 @@ ghost use Rattle.std.specs.Prelude.{◌≡◌, true};
 ghost use Rattle.state.specs.Refusals.{first_refusal};
 ghost use Rattle.state_slots.specs.Waking.{no_wakes};
 ghost use Rattle.state_call.specs.Outcome.{or_else};
-ghost use Rattle.transfer_piece.specs.Piece.{piece};
 ghost use Rattle.transfer_begin.specs.Begin.{begin_conditions};
-ghost use Rattle.endpoint_answer.specs.declared.MoveAnswer.TheVariants.{Refused, Ended};
+ghost use Rattle.endpoint_answer.specs.declared.Move.TheVariants.{Ended};
 
-use endpoint_answer::{MoveAnswer, MoveResult};
+use endpoint_answer::Move;
 use endpoint_plan::Plan;
-use state::{Check, Events, State};
+use state::{EndpointAddress, Events, State};
+use state_call::Listed;
+use state_slots::waking::no_wakes;
+use transfer_begin::begin_check;
 
 // Nothing is left to send: only the refusals of a begin are asked.
+#[tactic(auto, unfolding(state_call::specs::Outcome::or_else))]
 pub fn nothing(
     room: usize,
     state: State,
@@ -22,42 +25,23 @@ pub fn nothing(
     index: u8,
     plan: Plan,
     total: usize,
-) -> MoveResult
-    ensures answer { result.answer ≡ or_else (first_refusal (begin_conditions room state events index true (piece plan.address plan.length plan.zlp) plan.long plan.unfit)) Refused (Ended total) }
+) -> Listed<Move>
+    ensures answer { result.answer ≡ or_else (first_refusal (begin_conditions room state events index true plan.piece plan.long plan.unfit)) Err (Ok (Ended total)) }
     ensures state { result.state ≡ state }
     ensures end { result.end ≡ 0 }
     ensures wakes { result.wakes ≡ no_wakes }
 {
-    let good = state_sound::sound(state, events);
-    let awaited = state.awaited;
-    let wakes = state_slots::waking::no_wakes();
-    let i = state_slots::slot_place(index, true);
-    let slot = state.endpoints[i];
-    let further = transfer_piece::slot_check(
-        state.powered,
+    let endpoint = EndpointAddress {
         index,
-        true,
-        slot,
-        plan.address,
-        plan.length,
-        plan.long,
-        plan.unfit,
+        incoming: true,
+    };
+    let check = begin_check(
+        room, &state, events, endpoint, plan.piece, plan.long, plan.unfit,
     );
-    let check = state_call::admit(room, good, awaited, further);
-    let answer = ended(check, total);
-    MoveResult {
-        state: state,
-        answer: answer,
+    Listed {
+        state,
+        answer: check.and(Ok(Move::Ended(total))),
         end: 0,
-        wakes: wakes,
-    }
-}
-
-fn ended(check: Check, total: usize) -> MoveAnswer
-    ensures { result ≡ or_else check Refused (Ended total) }
-{
-    match check {
-        Check::Fits => MoveAnswer::Ended(total),
-        Check::Refused(refusal) => MoveAnswer::Refused(refusal),
+        wakes: no_wakes(),
     }
 }

@@ -1,8 +1,8 @@
 -- Parts: how long they are, and what the code's ends come to.
 -- Assumes nothing.
-use Rattle.std.specs.Prelude.{ℕ, ◌+◌, ◌-◌, ◌≤◌, ◌<◌, min, Bool, true, false, List, [], ◌++◌, ◌≡◌, refl, leb, length, take, drop}
-use Rattle.std.proofs.Common.{append-nil, sym, ◌∙◌, leb-true, leb-false, arith, length-take, length-drop, drop_of_length-le, take-append-drop, take_all, drop-drop}
-use Rattle.std.proofs.Math.Seq.{take-nil, take-length}
+use Rattle.std.specs.Prelude.{ℕ, ◌+◌, ◌-◌, ◌≤◌, ◌<◌, min, Bool, true, false, List, ◌++◌, ◌≡◌, refl, leb, length, take, drop}
+use Rattle.std.proofs.Common.{append-nil, sym, ◌∙◌, leb-true, leb-false, arith, length-take, length-drop, drop_of_length-le, take_all, drop-drop}
+use Rattle.std.proofs.Math.Seq.{take-length}
 use Rattle.endpoint_parts.specs.Parts.{part, put}
 
 -- either of two numbers is the lesser

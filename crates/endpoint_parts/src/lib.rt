@@ -5,21 +5,14 @@
 ghost use Rattle.std.specs.Prelude.{◌≡◌, ◌-◌, min as least, length};
 ghost use Rattle.endpoint_parts.specs.Parts.{part, piece_of, put};
 
-pub fn min_usize(a: usize, b: usize) -> usize
-    ensures { result ≡ least a b }
-{
-    if a < b { a } else { b }
-}
+use base::copies::copy;
 
 // At most `len` bytes from `from` on.
 pub fn part<'a>(bytes: &'a [u8], from: usize, len: usize) -> &'a [u8]
     ensures { result.now ≡ part bytes.now from len }
 {
-    let start = min_usize(from, bytes.len());
-    let rest = bytes.len() - start;
-    let count = min_usize(len, rest);
-    let end = start + count;
-    &bytes[start..end]
+    let rest = &bytes[from.min(bytes.len())..];
+    &rest[..len.min(rest.len())]
 }
 
 // What a transfer uses: of the caller's bytes the part from `at` on, or the start of the endpoint's own buffer.
@@ -27,19 +20,16 @@ pub fn piece<'a>(bytes: &'a [u8], own: &'a [u8], direct: bool, at: usize, len: u
     ensures { result.now ≡ piece_of direct bytes.now own.now at len }
 {
     if direct {
-        return part(bytes, at, len);
+        part(bytes, at, len)
+    } else {
+        part(own, 0, len)
     }
-    part(own, 0, len)
 }
 
 // The part of `source` is stored in `target` from `at` on, as far as `target` goes.
 pub fn copy_part(source: &[u8], from: usize, len: usize, target: &mut [u8], at: usize)
     ensures { target.new ≡ put target.old at (part source.now from (least len (length target.old - at))) }
 {
-    let start = min_usize(at, target.len());
-    let room = target.len() - start;
-    let count = min_usize(len, room);
-    let bytes = part(source, from, count);
-    let end = start + bytes.len();
-    base::copies::copy(bytes, &mut target[start..end]);
+    let start = at.min(target.len());
+    copy(part(source, from, len), &mut target[start..]);
 }

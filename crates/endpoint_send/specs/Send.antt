@@ -1,9 +1,10 @@
 -- A piece of a send begun (reference: `write`, `write_transfer` and `send` of endpoint.rs).
 -- Assumes nothing.
-use Rattle.std.specs.Prelude.{ℕ, Bool, true, cond, List, [], ◌∷◌, length}
+use Rattle.std.specs.Prelude.{ℕ, true, cond, List, [], ◌∷◌, Err, Result, Ok}
 use Rattle.state.specs.declared.Slot.{Slot}
 use Rattle.state.specs.declared.State.{State}
 use Rattle.state.specs.declared.Events.{Events}
+use Rattle.state.specs.declared.Refusal.{Refusal}
 use Rattle.state.specs.Numbers.{refusal_number}
 use Rattle.state.specs.Refusals.{Condition, first_refusal}
 use Rattle.state_slots.specs.Slots.{slot_of}
@@ -13,8 +14,8 @@ use Rattle.transfer_begin.specs.Begin.{begin_conditions, begun_state, begun_ops}
 use Rattle.endpoint_parts.specs.Parts.{part}
 use Rattle.endpoint_choice.specs.declared.Asked.{Asked}
 use Rattle.endpoint_choice.specs.Choice.{place, longer, own_unfit, send_direct, send_piece, send_begins}
-use Rattle.endpoint_answer.specs.declared.MoveAnswer.{MoveAnswer}
-use Rattle.endpoint_answer.specs.declared.MoveAnswer.TheVariants as move
+use Rattle.endpoint_answer.specs.declared.Move.{Move}
+use Rattle.endpoint_answer.specs.declared.Move.TheVariants as move
 
 -- Those of begin: 7; 9 of a `write` above a packet; 22; 23; 8 also of the lent own buffer. They come before everything,
 -- also where there is nothing to send.
@@ -27,22 +28,22 @@ abbrev pub send_copies : Slot → Asked → List ℕ → List ℕ
 send_copies x k bytes = cond (send_direct k) [] (part bytes (place k) (send_piece x k).length)
 
 -- the transfer of the next piece begins, its bytes in place; or there is none left, and all is sent
-abbrev pub send_made : State → Events → ℕ → Asked → List ℕ → Outcome MoveAnswer
+abbrev pub send_made : State → Events → ℕ → Asked → List ℕ → Outcome (Result Move Refusal)
 send_made s v e k bytes =
     cond (send_begins (slot_of s e true) k)
     (record {
-      answer = move.Begun (send_piece (slot_of s e true) k).length;
+      answer = Ok (move.Begun (send_piece (slot_of s e true) k).length);
       state = begun_state s e true (send_piece (slot_of s e true) k);
       events = v;
       ops = begun_ops s e true (send_piece (slot_of s e true) k);
       wakes = no_wakes;
       copied = send_copies (slot_of s e true) k bytes;
     })
-    (record { answer = move.Ended k.length; state = s; events = v; ops = []; wakes = no_wakes; copied = [] })
+    (record { answer = Ok (move.Ended k.length); state = s; events = v; ops = []; wakes = no_wakes; copied = [] })
 
 -- the caller's bytes are lent, and the own buffer, which lies at an address and is so long
-unfoldable pub send_call : ℕ → State → Events → ℕ → Asked → List ℕ → ℕ → ℕ → Outcome MoveAnswer
-send_call room s v e k bytes own_address own_size = unless move.Refused (first_refusal (send_conditions room s v e k own_address own_size)) s v (send_made s v e k bytes)
+unfoldable pub send_call : ℕ → State → Events → ℕ → Asked → List ℕ → ℕ → ℕ → Outcome (Result Move Refusal)
+send_call room s v e k bytes own_address own_size = unless Err (first_refusal (send_conditions room s v e k own_address own_size)) s v (send_made s v e k bytes)
 
 -- the numbers of its answer
 abbrev pub send_says : ℕ → State → Events → ℕ → Asked → ℕ → ℕ → List ℕ

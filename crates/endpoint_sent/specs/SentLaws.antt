@@ -1,21 +1,19 @@
 -- A piece of a send taken: what is next, and its numbers.
 -- Assumes nothing.
-use Rattle.std.specs.Prelude.{ℕ, Bool, cond, [], ◌∷◌, ◌≡◌, ltb}
+use Rattle.std.specs.Prelude.{ℕ, Bool, cond, [], ◌∷◌, ◌≡◌, ltb, Ok, Err, Some, None}
 use Rattle.std.proofs.Math.Bool.{true, false}
 use Rattle.std.proofs.Math.Path.{refl, ap}
 use Rattle.std.proofs.Common.{◌∙◌}
 use Rattle.state.specs.declared.State.{State}
 use Rattle.state.specs.declared.Events.{Events}
 use Rattle.state.specs.declared.Refusal.TheVariants.{TooLong}
-use Rattle.state.specs.declared.Check.{Check}
-use Rattle.state.specs.declared.Check.TheVariants.{Fits, Refused}
+use Rattle.state.specs.Refusals.{Check}
 use Rattle.state.specs.Fresh.{slot_at}
 use Rattle.state.specs.Numbers.{refusal_number}
 use Rattle.state.specs.Refusals.{first_refusal}
 use Rattle.state_slots.specs.Slots.{busyb, slot_place, slot_of}
 use Rattle.state_call.specs.Outcome.{or_else}
 use Rattle.state_call.specs.OutcomeLaws.{call_answer}
-use Rattle.transfer_take.specs.declared.TakeAnswer.TheVariants as take
 use Rattle.transfer_take.specs.Take.{take_conditions, take_call}
 use Rattle.endpoint_choice.specs.declared.Asked.{Asked}
 use Rattle.endpoint_choice.specs.Choice.{own_unfit, any_length}
@@ -37,11 +35,11 @@ module _ (s : State) (v : Events) (e : ℕ) (k : Asked) (own_address own_size : 
   sent_numbers_lem =
       let x = slot_of s e true in
       let c = first_refusal (take_conditions s v e true (own_unfit x own_address own_size)) in
-      ap (λ a. move_numbers (sent_says x k a)) (call_answer take.Refused c s v _) ∙ go c (busyb x.phase) (ltb any_length x.transfer.progress)
+      ap (λ a. move_numbers (sent_says x k a)) (call_answer Err c s v _) ∙ go c (busyb x.phase) (ltb any_length x.transfer.progress)
     where
-      go : (c : Check) (b l : Bool) → move_numbers (sent_says (slot_of s e true) k (or_else c take.Refused (cond b take.Busy (cond l (take.Refused TooLong) (take.Taken (slot_of s e true).transfer.progress)))))
-          ≡ or_else c (λ r. refusal_number r ∷ []) (cond b (0 ∷ 0 ∷ []) (cond l (9 ∷ []) (move_numbers (sent_next (slot_of s e true) k (slot_of s e true).transfer.progress))))
-      go (Refused r) b l = refl
-      go Fits true l = refl
-      go Fits false true = refl
-      go Fits false false = refl
+      go : (c : Check) (b l : Bool) → move_numbers (sent_says (slot_of s e true) k (or_else c Err (cond b (Ok None) (cond l (Err TooLong) (Ok (Some (slot_of s e true).transfer.progress))))))
+          ≡ or_else c (λ r. refusal_number r ∷ []) (cond b (0 ∷ 0 ∷ []) (cond l (9 ∷ []) (move_numbers (Ok (sent_next (slot_of s e true) k (slot_of s e true).transfer.progress)))))
+      go (Err r) b l = refl
+      go (Ok tt) true l = refl
+      go (Ok tt) false true = refl
+      go (Ok tt) false false = refl

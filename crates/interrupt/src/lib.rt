@@ -7,14 +7,25 @@ ghost use Rattle.ops.specs.Wrote.{Wrote};
 ghost use Rattle.interrupt_asks.specs.Settled.{interrupt_numbers};
 ghost use Rattle.interrupt.specs.Interrupt.{answer_call, answer_says};
 
-use interrupt_asks::InterruptResult;
+use control_report::reset_by;
+use interrupt_asks::{InterruptResult, Sight, settle};
+use interrupt_begin::{is_open, refused};
+use interrupt_hear::{Effects, hear};
 use interrupt_link::LinkEffect;
-use interrupt_transfer::{Sight, TransferEffect};
-use state::{Check, Events, Reading, State};
+use interrupt_slots::{slot_heard, slots_heard};
+use interrupt_transfer::TransferEffect;
+use state::{Events, Reading, State};
+use state_sound::sound;
 use transfer_chain::CHAIN_PACKETS;
+use transfer_window::{in_hand_count, window_of};
 
 // Hands a reading in. Its slot and what else it looks at are taken out of the state, and stored back where they lie.
-pub fn answer(ops: &mut [u32], state: State, events: Events, reading: Reading) -> InterruptResult
+pub fn answer(
+    ops: &mut [u32],
+    mut state: State,
+    events: Events,
+    reading: Reading,
+) -> InterruptResult
     ensures answer { result.answer ≡ (answer_call (length ops.old) state events reading).answer }
     ensures state { result.state ≡ (answer_call (length ops.old) state events reading).state }
     ensures events { result.events ≡ (answer_call (length ops.old) state events reading).events }
@@ -22,79 +33,63 @@ pub fn answer(ops: &mut [u32], state: State, events: Events, reading: Reading) -
     ensures wakes { result.wakes ≡ (answer_call (length ops.old) state events reading).wakes }
     ensures numbers { interrupt_numbers result.answer ≡ answer_says (length ops.old) state events reading }
 {
-    let mut s = state;
-    let good = state_sound::sound(state, events);
-    let open = interrupt_begin::is_open(ops.len(), good);
-    if let Check::Refused(refusal) = open {
-        return interrupt_begin::refused(refusal, state, events);
+    let good = sound(state, events);
+    let open = is_open(ops.len(), good);
+    if let Err(refusal) = open {
+        return refused(refusal, state, events);
     }
-    let most = interrupt_slots::slots_heard(state.awaited);
-    let mut count: u32 = 0;
-    let mut n: usize = 0;
-    while n < most {
-        let k = n + 2;
-        count = transfer_window::counted(count, s.endpoints[k]);
-        n = n + 1;
-    }
-    let window = transfer_window::window_of(count);
-    let i = interrupt_slots::slot_heard(state.awaited, reading);
-    let setup = state.setup;
-    let heard = interrupt_hear::hear(
-        ops,
-        state.ep0_address,
-        state.revision,
-        Sight {
-            limit: CHAIN_PACKETS,
-            window: window,
-            address: state.address,
-            in_last: state.in_last,
-        },
-        state.awaited,
-        LinkEffect {
+    let most = slots_heard(state.awaited);
+    let window = window_of(in_hand_count(&state, most));
+    let place = slot_heard(state.awaited, reading);
+    let sight = Sight {
+        ep0: state.ep0_address,
+        revision: state.revision,
+        limit: CHAIN_PACKETS,
+        window,
+        in_last: state.in_last,
+        awaited: state.awaited,
+        place,
+    };
+    let effects = Effects {
+        link: LinkEffect {
             resets: false,
             suspended: state.suspended,
             reset_seen: state.reset_seen,
             low_power: state.low_power,
-            events: events,
+            events,
         },
-        i,
-        TransferEffect {
-            slot: s.endpoints[i],
+        transfer: TransferEffect {
+            slot: state.endpoints[place],
             wake: state.wake,
-            has_address: state.has_address,
+            setup: None,
+            address: state.address,
             tx_seq: state.tx_seq,
-            received: false,
-            setup: setup,
         },
-        reading,
-    );
-    let check = heard.check;
-    if let Check::Refused(refusal) = check {
-        return interrupt_begin::refused(refusal, state, events);
+    };
+    let turn = match hear(ops, sight, effects, reading) {
+        Ok(turn) => turn,
+        Err(refusal) => return refused(refusal, state, events),
+    };
+    let Effects { link, transfer } = turn.effect;
+    state.endpoints[place] = transfer.slot;
+    state.wake = transfer.wake;
+    state.address = transfer.address;
+    state.tx_seq = transfer.tx_seq;
+    // the state is handed on only where something resets
+    if link.resets | transfer.setup.is_some() {
+        state = reset_by(link.resets, state, transfer.setup);
     }
-    let y = heard.transfer.slot;
-    s.endpoints[i] = y;
-    s.wake = heard.transfer.wake;
-    s.has_address = heard.transfer.has_address;
-    s.tx_seq = heard.transfer.tx_seq;
-    if heard.link.resets | heard.transfer.received {
-        s = control_report::reset_by(heard.link.resets, s, heard.transfer.setup);
-    }
-    let ending = interrupt_asks::settle(heard.awaited, heard.link.events, s.wake);
-    let left = ending.awaited;
-    s.suspended = heard.link.suspended;
-    s.reset_seen = heard.link.reset_seen;
-    s.low_power = heard.link.low_power;
-    s.wake = ending.wake;
-    s.awaited = left;
-    let after = heard.link.events;
-    let answer = ending.answer;
-    let wakes = ending.wakes;
+    let ending = settle(turn.awaited, link.events, state.wake);
+    state.suspended = link.suspended;
+    state.reset_seen = link.reset_seen;
+    state.low_power = link.low_power;
+    state.wake = ending.wake;
+    state.awaited = ending.awaited;
     InterruptResult {
-        state: s,
-        events: after,
-        answer: answer,
-        end: heard.end,
-        wakes: wakes,
+        state,
+        events: link.events,
+        answer: Ok(ending.awaited.next),
+        end: turn.end,
+        wakes: ending.wakes,
     }
 }

@@ -1,4 +1,5 @@
 pub mod Asking
 pub mod AskingLaws
+pub mod Turns
 pub mod Settled
 pub mod SettledLaws

@@ -1,4 +1,5 @@
-// Which reading an interrupt awaits next, and how its calls end (reference: `link_irq` and `on_interrupt` of device.rs).
+// Which reading an interrupt awaits next, what a reading looks at and comes to, and how an interrupt's calls end (reference:
+// `link_irq` and `on_interrupt` of device.rs).
 #![tactic(auto)]
 
 ghost use Rattle.std.specs.Prelude.{◌≡◌, cond, ◌+◌, ◌≤◌, length};
@@ -8,34 +9,30 @@ ghost use Rattle.state.specs.Awaiting.{awaitingb};
 ghost use Rattle.state.specs.Fresh.{nothing_awaited};
 ghost use Rattle.state_slots.specs.Completing.{collected};
 ghost use Rattle.state_slots.specs.Waking.{no_wakes};
-ghost use Rattle.interrupt_asks.specs.declared.InterruptAnswer.TheVariants.{Awaits, Ended};
 ghost use Rattle.interrupt_asks.specs.Asking.{behind_timeout, behind_timeout_ops, behind_message, behind_message_ops, behind_sent, behind_sent_ops, sent_ops, behind_term_ops, behind_change, behind_change_ops, asked};
 
-use ops::numbers::*;
+use ops::Field;
+use regs_link::{go_disabled, go_rx_det, link_ack, tx_port_cap};
+use state::fresh::nothing_awaited;
+use state::readings::is_awaiting;
 use state::{Awaited, Awaiting, Events, LinkFlags, Refusal, State, Wakes};
+use state_slots::completing::collect;
+use state_slots::waking::no_wakes;
 
-#[derive(Clone, Copy)]
-pub enum InterruptAnswer {
-    Refused(Refusal),
-    Awaits(Awaiting),
-    Ended,
-}
-
-// `end`: how many numbers of the list are taken.
+// `answer`: the reading that is awaited; none where handling has ended. `end`: how many numbers of the list are taken.
 #[derive(Clone, Copy)]
 pub struct InterruptResult {
     pub state: State,
     pub events: Events,
-    pub answer: InterruptAnswer,
+    pub answer: Result<Option<Awaiting>, Refusal>,
     pub end: usize,
     pub wakes: Wakes,
 }
 
-// How a call ends: what is still awaited, what it says, whom it leaves to be woken, and whom it wakes.
+// How a call ends: what is still awaited, whom it leaves to be woken, and whom it wakes.
 #[derive(Clone, Copy)]
 pub struct Ending {
     pub awaited: Awaited,
-    pub answer: InterruptAnswer,
     pub wake: u16,
     pub wakes: Wakes,
 }
@@ -43,7 +40,32 @@ pub struct Ending {
 // The reading that is asked for next, or none, and where the list ends.
 #[derive(Clone, Copy)]
 pub struct Asked {
-    pub next: Awaiting,
+    pub next: Option<Awaiting>,
+    pub end: usize,
+}
+
+// What readings look at.
+#[derive(Clone, Copy)]
+pub struct Sight {
+    // where EP0's memory begins
+    pub ep0: u32,
+    pub revision: u8,
+    // the most packets of a chain
+    pub limit: u8,
+    // the window of the OUT endpoints
+    pub window: u32,
+    // the EP0 IN packet that is armed is the last of its data stage
+    pub in_last: bool,
+    pub awaited: Awaited,
+    // the number of the slot that the reading is about
+    pub place: usize,
+}
+
+// What a reading leaves of what it may change, what is awaited behind it, and where the list ends.
+#[derive(Clone, Copy)]
+pub struct Turn<E> {
+    pub effect: E,
+    pub awaited: Awaited,
     pub end: usize,
 }
 
@@ -54,14 +76,13 @@ fn behind_timeout(ops: &mut [u32], at: usize, flags: LinkFlags) -> Asked
     ensures list { Wrote ops.old at (behind_timeout_ops flags) result.end ops.new }
 {
     if flags.link_if_warm_rst {
-        let end = regs_link::link_ack(ops, at, LINK_IF_WARM_RST);
         return Asked {
-            next: Awaiting::WarmResetStatus,
-            end: end,
+            next: Some(Awaiting::WarmResetStatus),
+            end: link_ack(ops, at, Field::LinkIfWarmRst),
         };
     }
     Asked {
-        next: Awaiting::TransferStatus,
+        next: Some(Awaiting::TransferStatus),
         end: at,
     }
 }
@@ -73,12 +94,11 @@ pub fn behind_message(ops: &mut [u32], at: usize, flags: LinkFlags) -> Asked
     ensures list { Wrote ops.old at (behind_message_ops flags) result.end ops.new }
 {
     if flags.link_if_rx_lmp_tout {
-        let a = regs_link::link_ack(ops, at, LINK_IF_RX_LMP_TOUT);
-        let b = regs_link::go_disabled(ops, a, true);
-        let end = regs_link::go_rx_det(ops, b);
+        let a = link_ack(ops, at, Field::LinkIfRxLmpTout);
+        let b = go_disabled(ops, a, true);
         return Asked {
-            next: Awaiting::Nothing,
-            end: end,
+            next: None,
+            end: go_rx_det(ops, b),
         };
     }
     behind_timeout(ops, at, flags)
@@ -90,10 +110,9 @@ fn behind_sent(ops: &mut [u32], at: usize, flags: LinkFlags) -> Asked
     ensures list { Wrote ops.old at (behind_sent_ops flags) result.end ops.new }
 {
     if flags.link_if_rx_lmp {
-        let end = regs_link::link_ack(ops, at, LINK_IF_RX_LMP);
         return Asked {
-            next: Awaiting::MessageWord,
-            end: end,
+            next: Some(Awaiting::MessageWord),
+            end: link_ack(ops, at, Field::LinkIfRxLmp),
         };
     }
     behind_message(ops, at, flags)
@@ -104,8 +123,8 @@ fn send(ops: &mut [u32], at: usize, flags: LinkFlags) -> usize
     ensures { Wrote ops.old at (sent_ops flags) result ops.new }
 {
     if flags.link_if_tx_lmp {
-        let a = regs_link::link_ack(ops, at, LINK_IF_TX_LMP);
-        return regs_link::tx_port_cap(ops, a);
+        let a = link_ack(ops, at, Field::LinkIfTxLmp);
+        return tx_port_cap(ops, a);
     }
     at
 }
@@ -125,82 +144,38 @@ pub fn behind_change(ops: &mut [u32], at: usize, flags: LinkFlags) -> Asked
     ensures list { Wrote ops.old at (behind_change_ops flags) result.end ops.new }
 {
     if flags.link_if_term_pres {
-        let end = regs_link::link_ack(ops, at, LINK_IF_TERM_PRES);
         return Asked {
-            next: Awaiting::TermPresStatus,
-            end: end,
+            next: Some(Awaiting::TermPresStatus),
+            end: link_ack(ops, at, Field::LinkIfTermPres),
         };
     }
     behind_term(ops, at, flags)
 }
 
-// Another reading awaited, with what is remembered.
-pub fn ask(awaited: Awaited, next: Awaiting) -> Awaited
+// Another reading awaited, or none, with what is remembered.
+pub fn ask(awaited: Awaited, next: Option<Awaiting>) -> Awaited
     ensures { result ≡ asked awaited next }
 {
-    let flags = awaited.flags;
-    let link_state = awaited.link_state;
-    Awaited {
-        next: next,
-        flags: flags,
-        link_state: link_state,
-        endpoint: awaited.endpoint,
-        packets: awaited.packets,
-    }
+    Awaited { next, ..awaited }
 }
 
-// Where handling has ended, nothing is awaited or remembered,
-fn left_awaited(awaiting: bool, awaited: Awaited) -> Awaited
-    ensures { result ≡ cond awaiting awaited nothing_awaited }
-{
-    if awaiting {
-        return awaited;
-    }
-    state::fresh::nothing_awaited()
-}
-
-// nobody is left to be woken,
-pub fn left_wake(awaiting: bool, wake: u16) -> u16
-    ensures { result ≡ cond awaiting wake 0 }
-{
-    if awaiting { wake } else { 0 }
-}
-
-// and those collected are woken.
-pub fn woken(awaiting: bool, events: Events, wake: u16) -> Wakes
-    ensures { result ≡ cond awaiting no_wakes (collected events wake) }
-{
-    if awaiting {
-        return state_slots::waking::no_wakes();
-    }
-    state_slots::completing::collect(events, wake)
-}
-
-pub fn said(awaiting: bool, next: Awaiting) -> InterruptAnswer
-    ensures { result ≡ cond awaiting (Awaits next) Ended }
-{
-    if awaiting {
-        return InterruptAnswer::Awaits(next);
-    }
-    InterruptAnswer::Ended
-}
-
+// Where handling has ended, nothing is awaited or remembered, nobody is left to be woken, and those collected are woken.
 pub fn settle(awaited: Awaited, events: Events, wake: u16) -> Ending
+    ensures next { result.awaited.next ≡ awaited.next }
     ensures awaited { result.awaited ≡ cond (awaitingb awaited.next) awaited nothing_awaited }
-    ensures answer { result.answer ≡ cond (awaitingb awaited.next) (Awaits awaited.next) Ended }
     ensures wake { result.wake ≡ cond (awaitingb awaited.next) wake 0 }
     ensures wakes { result.wakes ≡ cond (awaitingb awaited.next) no_wakes (collected events wake) }
 {
-    let next = awaited.next;
-    let awaiting = state::readings::is_awaiting(next);
-    let asks = left_awaited(awaiting, awaited);
-    let answer = said(awaiting, next);
-    let left = left_wake(awaiting, wake);
-    let wakes = woken(awaiting, events, wake);
+    if is_awaiting(awaited.next) {
+        return Ending {
+            awaited,
+            wake,
+            wakes: no_wakes(),
+        };
+    }
     Ending {
-        awaited: asks,
-        answer: answer,
-        wake: left,
-        wakes: wakes,
+        awaited: nothing_awaited(),
+        wake: 0,
+        wakes: collect(events, wake),
     }
 }

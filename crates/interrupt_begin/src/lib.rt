@@ -1,31 +1,34 @@
 // An interrupt begun, and what its readings share with it (reference: `on_interrupt` of device.rs).
 #![tactic(auto)]
 
-ghost use Rattle.std.specs.Prelude.{◌≡◌, length};
+ghost use Rattle.std.specs.Prelude.{◌≡◌, Err, length};
 ghost use Rattle.ops.specs.Wrote.{Wrote};
 ghost use Rattle.state_slots.specs.Waking.{no_wakes};
-ghost use Rattle.interrupt_asks.specs.declared.InterruptAnswer.TheVariants.{Refused};
 ghost use Rattle.interrupt_asks.specs.Settled.{interrupt_numbers};
 ghost use Rattle.interrupt_begin.specs.Begin.{first_awaited, interrupt_call, interrupt_says, door};
 
-use interrupt_asks::{InterruptAnswer, InterruptResult};
-use state::{Awaited, Awaiting, Check, Events, Refusal, State};
+use interrupt_asks::{InterruptResult, settle};
+use state::fresh::nothing_awaited;
+use state::refusals::refuse_if;
+use state::{Awaited, Awaiting, Events, Refusal, State};
+use state_call::admit;
+use state_slots::waking::no_wakes;
+use state_sound::sound;
 
 // A refused call changes nothing.
 pub fn refused(refusal: Refusal, state: State, events: Events) -> InterruptResult
-    ensures answer { result.answer ≡ Refused refusal }
+    ensures answer { result.answer ≡ Err refusal }
     ensures state { result.state ≡ state }
     ensures events { result.events ≡ events }
     ensures end { result.end ≡ 0 }
     ensures wakes { result.wakes ≡ no_wakes }
 {
-    let wakes = state_slots::waking::no_wakes();
     InterruptResult {
-        state: state,
-        events: events,
-        answer: InterruptAnswer::Refused(refusal),
+        state,
+        events,
+        answer: Err(refusal),
         end: 0,
-        wakes: wakes,
+        wakes: no_wakes(),
     }
 }
 
@@ -33,11 +36,10 @@ pub fn refused(refusal: Refusal, state: State, events: Events) -> InterruptResul
 fn first_awaited(powered: bool) -> Awaited
     ensures { result ≡ first_awaited powered }
 {
-    let nothing = state::fresh::nothing_awaited();
-    if powered {
-        return interrupt_asks::ask(nothing, Awaiting::LinkFlags);
+    Awaited {
+        next: powered.then_some(Awaiting::LinkFlags),
+        ..nothing_awaited()
     }
-    nothing
 }
 
 // Begins the handling of an interrupt.
@@ -50,31 +52,27 @@ pub fn interrupt(ops: &mut [u32], state: State, events: Events) -> InterruptResu
     ensures numbers { interrupt_numbers result.answer ≡ interrupt_says (length ops.old) state events }
 {
     let mut s = state;
-    let good = state_sound::sound(s, events);
-    let awaited = s.awaited;
-    let check = state_call::admit(ops.len(), good, awaited, Check::Fits);
-    if let Check::Refused(refusal) = check {
+    let good = sound(s, events);
+    let check = admit(ops.len(), good, s.awaited);
+    if let Err(refusal) = check {
         return refused(refusal, s, events);
     }
-    let asks = first_awaited(s.powered);
-    let wakes = interrupt_asks::woken(s.powered, events, s.wake);
-    let answer = interrupt_asks::said(s.powered, Awaiting::LinkFlags);
-    let wake = interrupt_asks::left_wake(s.powered, s.wake);
-    s.wake = wake;
-    s.awaited = asks;
+    let ending = settle(first_awaited(s.powered), events, s.wake);
+    s.wake = ending.wake;
+    s.awaited = ending.awaited;
     InterruptResult {
         state: s,
-        events: events,
-        answer: answer,
+        events,
+        answer: Ok(ending.awaited.next),
         end: 0,
-        wakes: wakes,
+        wakes: ending.wakes,
     }
 }
 
 // 10 and 26, before a reading is looked at.
-pub fn is_open(room: usize, good: bool) -> Check
+pub fn is_open(room: usize, good: bool) -> Result<(), Refusal>
     ensures { result ≡ door room good }
 {
-    let sound = state::refusals::refuse_if(!good, Refusal::Unsound, Check::Fits);
-    state::refusals::refuse_if(room < ops::LIST_NUMBERS, Refusal::ListTooShort, sound)
+    refuse_if(room < ops::LIST_NUMBERS, Refusal::ListTooShort)?;
+    refuse_if(!good, Refusal::Unsound)
 }

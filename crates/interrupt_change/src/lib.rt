@@ -8,10 +8,12 @@ ghost use Rattle.regs_link.specs.Link.{phy_write_ops, hot_reset_done_ops};
 ghost use Rattle.regs_device.specs.Device.{bus_reset_ops};
 ghost use Rattle.interrupt_link.specs.Actions.{rx_detected, link_reset, recovered, recovered_ops, came_up, asleep, link_change, link_change_ops, changed, changed_ops};
 
-use interrupt_link::{Acted, LinkEffect};
-use ops::numbers::*;
+use interrupt_link::{Acted, LinkEffect, link_reset, raise_if};
+use ops::Field;
+use regs_device::bus_reset;
+use regs_link::{delay_cycles, go_disabled, hot_reset_done, link_ack, phy_write};
 use state::LinkState;
-use state_events::Event;
+use state_events::{Event, raise_event};
 
 // RXDET: the host is gone.
 fn rx_detected(ops: &mut [u32], at: usize, ep0: u32, effect: LinkEffect) -> Acted
@@ -19,18 +21,16 @@ fn rx_detected(ops: &mut [u32], at: usize, ep0: u32, effect: LinkEffect) -> Acte
     ensures effect { result.effect ≡ rx_detected effect }
     ensures list { Wrote ops.old at (bus_reset_ops ep0) result.end ops.new }
 {
-    let end = regs_device::bus_reset(ops, at, ep0);
-    let events = effect.events;
-    let raised = interrupt_link::raise_if(effect.reset_seen, events, Event::Suspend);
+    let end = bus_reset(ops, at, ep0);
     Acted {
         effect: LinkEffect {
             resets: true,
             suspended: false,
             reset_seen: false,
             low_power: false,
-            events: raised,
+            events: raise_if(effect.reset_seen, effect.events, Event::Suspend),
         },
-        end: end,
+        end,
     }
 }
 
@@ -39,12 +39,10 @@ fn hot_reset(ops: &mut [u32], at: usize, ep0: u32, effect: LinkEffect) -> Acted
     ensures effect { result.effect ≡ link_reset effect }
     ensures list { Wrote ops.old at (bus_reset_ops ep0 ++ hot_reset_done_ops) result.end ops.new }
 {
-    let a = regs_device::bus_reset(ops, at, ep0);
-    let end = regs_link::hot_reset_done(ops, a);
-    let after = interrupt_link::link_reset(effect);
+    let a = bus_reset(ops, at, ep0);
     Acted {
-        effect: after,
-        end: end,
+        effect: link_reset(effect),
+        end: hot_reset_done(ops, a),
     }
 }
 
@@ -54,24 +52,16 @@ fn recover(ops: &mut [u32], at: usize, effect: LinkEffect) -> Acted
     ensures effect { result.effect ≡ recovered effect }
     ensures list { Wrote ops.old at (recovered_ops effect.low_power) result.end ops.new }
 {
-    if effect.low_power {
-        let a = regs_link::delay_cycles(ops, at, 4000);
-        let end = regs_link::phy_write(ops, a, 0x12, 0x67c8);
-        let events = effect.events;
-        return Acted {
-            effect: LinkEffect {
-                resets: effect.resets,
-                suspended: effect.suspended,
-                reset_seen: effect.reset_seen,
-                low_power: false,
-                events: events,
-            },
-            end: end,
-        };
+    if !effect.low_power {
+        return Acted { effect, end: at };
     }
+    let a = delay_cycles(ops, at, 4000);
     Acted {
-        effect: effect,
-        end: at,
+        effect: LinkEffect {
+            low_power: false,
+            ..effect
+        },
+        end: phy_write(ops, a, 0x12, 0x67c8),
     }
 }
 
@@ -79,28 +69,21 @@ fn recover(ops: &mut [u32], at: usize, effect: LinkEffect) -> Acted
 fn come_up(effect: LinkEffect) -> LinkEffect
     ensures { result ≡ came_up effect }
 {
-    let events = effect.events;
-    if effect.reset_seen {
-        if effect.suspended {
-            let raised = state_events::raise_event(events, Event::Resume);
-            return LinkEffect {
-                resets: effect.resets,
-                suspended: false,
-                reset_seen: effect.reset_seen,
-                low_power: effect.low_power,
-                events: raised,
-            };
-        }
-        return effect;
+    if !effect.reset_seen {
+        return LinkEffect {
+            reset_seen: true,
+            events: raise_event(effect.events, Event::Reset),
+            ..effect
+        };
     }
-    let raised = state_events::raise_event(events, Event::Reset);
-    LinkEffect {
-        resets: effect.resets,
-        suspended: effect.suspended,
-        reset_seen: true,
-        low_power: effect.low_power,
-        events: raised,
+    if effect.suspended {
+        return LinkEffect {
+            suspended: false,
+            events: raise_event(effect.events, Event::Resume),
+            ..effect
+        };
     }
+    effect
 }
 
 // U1, U2 and U3: the PHY gets the values of a link that sleeps. `due`: this is a suspend.
@@ -109,18 +92,15 @@ fn fall_asleep(ops: &mut [u32], at: usize, due: bool, effect: LinkEffect) -> Act
     ensures effect { result.effect ≡ asleep due effect }
     ensures list { Wrote ops.old at (phy_write_ops 0x12 0x65c8) result.end ops.new }
 {
-    let end = regs_link::phy_write(ops, at, 0x12, 0x65c8);
-    let events = effect.events;
-    let raised = interrupt_link::raise_if(due, events, Event::Suspend);
+    let end = phy_write(ops, at, 0x12, 0x65c8);
     Acted {
         effect: LinkEffect {
-            resets: effect.resets,
             suspended: effect.suspended | due,
-            reset_seen: effect.reset_seen,
             low_power: true,
-            events: raised,
+            events: raise_if(due, effect.events, Event::Suspend),
+            ..effect
         },
-        end: end,
+        end,
     }
 }
 
@@ -130,30 +110,20 @@ fn change(ops: &mut [u32], at: usize, ep0: u32, link_state: LinkState, effect: L
     ensures list { Wrote ops.old at (link_change_ops link_state ep0 effect.low_power) result.end ops.new }
 {
     match link_state {
-        LinkState::U0 => {
-            let after = come_up(effect);
-            Acted {
-                effect: after,
-                end: at,
-            }
-        }
-        LinkState::U1 => fall_asleep(ops, at, false, effect),
-        LinkState::U2 => fall_asleep(ops, at, false, effect),
-        LinkState::U3 => { fall_asleep(ops, at, !effect.suspended & effect.reset_seen, effect) }
-        LinkState::DISABLED => {
-            let end = regs_link::go_disabled(ops, at, false);
-            Acted {
-                effect: effect,
-                end: end,
-            }
-        }
+        LinkState::U0 => Acted {
+            effect: come_up(effect),
+            end: at,
+        },
+        LinkState::U1 | LinkState::U2 => fall_asleep(ops, at, false, effect),
+        LinkState::U3 => fall_asleep(ops, at, !effect.suspended & effect.reset_seen, effect),
+        LinkState::DISABLED => Acted {
+            effect,
+            end: go_disabled(ops, at, false),
+        },
         LinkState::RXDET => rx_detected(ops, at, ep0, effect),
         LinkState::RECOVERY => recover(ops, at, effect),
         LinkState::HOTRST => hot_reset(ops, at, ep0, effect),
-        LinkState::OTHER => Acted {
-            effect: effect,
-            end: at,
-        },
+        LinkState::OTHER => Acted { effect, end: at },
     }
 }
 
@@ -170,12 +140,9 @@ pub fn state_changed(
     ensures effect { result.effect ≡ changed flag link_state effect }
     ensures list { Wrote ops.old at (changed_ops flag link_state ep0 effect.low_power) result.end ops.new }
 {
-    if flag {
-        let a = regs_link::link_ack(ops, at, LINK_IF_STATE_CHG);
-        return change(ops, a, ep0, link_state, effect);
+    if !flag {
+        return Acted { effect, end: at };
     }
-    Acted {
-        effect: effect,
-        end: at,
-    }
+    let a = link_ack(ops, at, Field::LinkIfStateChg);
+    change(ops, a, ep0, link_state, effect)
 }

@@ -1,88 +1,70 @@
 // A flagged transfer, by its endpoint (reference: `transfer_irq` of device.rs).
 #![tactic(auto)]
 
-ghost use Rattle.std.specs.Prelude.{◌≡◌, ◌+◌, ◌≤◌, length};
+ghost use Rattle.std.specs.Prelude.{◌+◌, ◌≤◌, length};
 ghost use Rattle.ops.specs.Ops.{records};
-ghost use Rattle.ops.specs.Wrote.{Wrote};
-ghost use Rattle.interrupt_transfer.specs.Transfers.{chain_asked, ep0_reading};
+ghost use Rattle.interrupt_asks.specs.Turns.{Hears};
 ghost use Rattle.interrupt_transfer.specs.Pieces.{endpoint_pieces};
 
-use interrupt_transfer::{Sight, TransferEffect, TransferTurn};
-use state::{Awaited, Awaiting};
+use interrupt_asks::{Sight, Turn, ask};
+use interrupt_transfer::{TransferEffect, report_pieces};
+use state::fresh::nothing_awaited;
+use state::{Awaited, Awaiting, EndpointAddress};
+use transfer_chain::Report;
 
-fn ep0_reading(incoming: bool) -> Awaiting
-    ensures { result ≡ ep0_reading incoming }
-{
-    if incoming {
-        return Awaiting::Ep0Sequence;
-    }
-    Awaiting::Ep0Length
-}
-
-fn ask_chain(awaited: Awaited, index: u8) -> Awaited
-    ensures { result ≡ chain_asked awaited index }
-{
-    let flags = awaited.flags;
-    let link_state = awaited.link_state;
-    Awaited {
-        next: Awaiting::ChainPackets,
-        flags: flags,
-        link_state: link_state,
-        endpoint: index,
-        packets: awaited.packets,
-    }
-}
-
-// A transfer of endpoint 0, of a data endpoint, or of one that isn't there.
+// A transfer of endpoint 0, of a data endpoint, or of one that isn't there. IN has no numbers to tell; of OUT they are read.
 pub fn endpoint_turn(
     ops: &mut [u32],
     at: usize,
     sight: Sight,
-    awaited: Awaited,
-    i: usize,
     effect: TransferEffect,
     index: u32,
     incoming: bool,
-) -> TransferTurn
+) -> Turn<TransferEffect>
     requires { at + records 7 ≤ length ops.old }
-    ensures effect { result.effect ≡ (endpoint_pieces sight awaited i effect index incoming).effect }
-    ensures awaited { result.awaited ≡ (endpoint_pieces sight awaited i effect index incoming).awaited }
-    ensures list { Wrote ops.old at (endpoint_pieces sight awaited i effect index incoming).ops result.end ops.new }
+    ensures { Hears ops.old at (endpoint_pieces sight effect index incoming) result ops.new }
 {
     if index == 0 {
-        let next = ep0_reading(incoming);
-        let asks = interrupt_asks::ask(awaited, next);
-        return TransferTurn {
-            effect: effect,
-            awaited: asks,
+        let next = if incoming {
+            Awaiting::Ep0Sequence
+        } else {
+            Awaiting::Ep0Length
+        };
+        return Turn {
+            effect,
+            awaited: ask(sight.awaited, Some(next)),
             end: at,
         };
     }
     if 7 < index {
-        let nothing = state::fresh::nothing_awaited();
-        return TransferTurn {
-            effect: effect,
-            awaited: nothing,
+        return Turn {
+            effect,
+            awaited: nothing_awaited(),
             end: at,
         };
     }
+    let index = index as u8;
     if incoming {
-        return interrupt_transfer::report_pieces(
+        let report = Report {
+            packets: 0,
+            last: 0,
+        };
+        return report_pieces(
             ops,
             at,
             sight,
-            i,
             effect,
-            index as u8,
-            true,
-            0,
-            0,
+            EndpointAddress { index, incoming },
+            report,
         );
     }
-    let asks = ask_chain(awaited, index as u8);
-    TransferTurn {
-        effect: effect,
-        awaited: asks,
+    Turn {
+        effect,
+        awaited: Awaited {
+            next: Some(Awaiting::ChainPackets),
+            endpoint: index,
+            ..sight.awaited
+        },
         end: at,
     }
 }

@@ -1,3 +1,2 @@
 pub mod Followers
 pub mod Pieces
-pub mod PiecesLaws

@@ -1,2 +1,1 @@
 pub mod Hear
-pub mod HearLaws

@@ -1,6 +1,6 @@
 -- An interrupt ends: an accepted reading leads to a later one or to the end, so that no conversation has over nine.
 -- Assumes nothing.
-use Rattle.std.specs.Prelude.{ℕ, ◌≤◌, ◌<◌, Bool, true, false, cond, List, [], ◌∷◌, ◌≡◌, refl, eqb, leb, length}
+use Rattle.std.specs.Prelude.{ℕ, ◌≤◌, ◌<◌, Bool, true, false, cond, List, [], ◌∷◌, ◌≡◌, refl, eqb, leb, length, Ok, Err, Option, Some, None}
 use Rattle.std.proofs.Common.{arith}
 use Rattle.ops.specs.Numbers as number
 use Rattle.ops.specs.Ops.{Op}
@@ -15,14 +15,12 @@ use Rattle.state.specs.declared.Awaited.{Awaited}
 use Rattle.state.specs.declared.Reading.{Reading}
 use Rattle.state.specs.declared.State.{State}
 use Rattle.state.specs.declared.Events.{Events}
-use Rattle.state.specs.declared.Check.TheVariants.{Fits}
 use Rattle.state.specs.Awaiting.{awaiting_number, awaitingb}
 use Rattle.state.specs.Refusals.{first_refusal}
 use Rattle.state_call.specs.OutcomeLaws.{accepted}
 use Rattle.transfer_report.specs.Report.{report_state, report_ops}
 use Rattle.control_report.specs.Ep0.{status_done, status_ops, setup_ops}
 use Rattle.interrupt_link.specs.declared.LinkEffect.{LinkEffect}
-use Rattle.interrupt_asks.specs.declared.InterruptAnswer.TheVariants.{Refused, Awaits, Ended}
 use Rattle.interrupt_asks.specs.Asking.{asked, behind_timeout, behind_message, behind_sent, behind_change}
 use Rattle.interrupt_asks.specs.Settled.{settled_at, settled}
 use Rattle.interrupt_transfer.specs.Transfers.{over, asking, chain_asked, ep0_reading, endpoint_turn, status_turn}
@@ -41,20 +39,20 @@ left_at n =
     (cond (eqb n 2) 8
     (cond (eqb n 3) 7 (cond (eqb n 4) 6 (cond (eqb n 5) 5 (cond (eqb n 6) 4 (cond (eqb n 7) 3 (cond (eqb n 11) 2 (cond (eqb n 0) 0 1))))))))
 
-left_at_lem : (a : Awaiting) → (readings_left a ≡ left_at (awaiting_number a)) × (readings_left a ≤ 9)
-left_at_lem awaiting.Nothing = (refl, omega arith)
-left_at_lem awaiting.LinkFlags = (refl, omega arith)
-left_at_lem awaiting.LinkStatus = (refl, omega arith)
-left_at_lem awaiting.PortCapability = (refl, omega arith)
-left_at_lem awaiting.TermPresStatus = (refl, omega arith)
-left_at_lem awaiting.MessageWord = (refl, omega arith)
-left_at_lem awaiting.WarmResetStatus = (refl, omega arith)
-left_at_lem awaiting.TransferStatus = (refl, omega arith)
-left_at_lem awaiting.SetupBytes = (refl, omega arith)
-left_at_lem awaiting.Ep0Length = (refl, omega arith)
-left_at_lem awaiting.Ep0Sequence = (refl, omega arith)
-left_at_lem awaiting.ChainPackets = (refl, omega arith)
-left_at_lem awaiting.LastLength = (refl, omega arith)
+left_at_lem : (a : Option Awaiting) → (readings_left a ≡ left_at (awaiting_number a)) × (readings_left a ≤ 9)
+left_at_lem None = (refl, omega arith)
+left_at_lem (Some awaiting.LinkFlags) = (refl, omega arith)
+left_at_lem (Some awaiting.LinkStatus) = (refl, omega arith)
+left_at_lem (Some awaiting.PortCapability) = (refl, omega arith)
+left_at_lem (Some awaiting.TermPresStatus) = (refl, omega arith)
+left_at_lem (Some awaiting.MessageWord) = (refl, omega arith)
+left_at_lem (Some awaiting.WarmResetStatus) = (refl, omega arith)
+left_at_lem (Some awaiting.TransferStatus) = (refl, omega arith)
+left_at_lem (Some awaiting.SetupBytes) = (refl, omega arith)
+left_at_lem (Some awaiting.Ep0Length) = (refl, omega arith)
+left_at_lem (Some awaiting.Ep0Sequence) = (refl, omega arith)
+left_at_lem (Some awaiting.ChainPackets) = (refl, omega arith)
+left_at_lem (Some awaiting.LastLength) = (refl, omega arith)
 
 -- ---- what comes behind
 
@@ -69,28 +67,28 @@ settled_left s v a ops = go (awaitingb a.next)
 warm_left : (f : LinkFlags) → readings_left (behind_timeout f) < 5
 warm_left f = go f.link_if_warm_rst
   where
-    go : (b : Bool) → readings_left (cond b awaiting.WarmResetStatus awaiting.TransferStatus) < 5
+    go : (b : Bool) → readings_left (cond b (Some awaiting.WarmResetStatus) (Some awaiting.TransferStatus)) < 5
     go true = omega arith
     go false = omega arith
 
 message_left : (f : LinkFlags) → readings_left (behind_message f) < 5
 message_left f = go f.link_if_rx_lmp_tout
   where
-    go : (b : Bool) → readings_left (cond b awaiting.Nothing (behind_timeout f)) < 5
+    go : (b : Bool) → readings_left (cond b None (behind_timeout f)) < 5
     go true = omega arith
     go false = warm_left f
 
 sent_left : (f : LinkFlags) → readings_left (behind_sent f) < 6
 sent_left f = go f.link_if_rx_lmp
   where
-    go : (b : Bool) → readings_left (cond b awaiting.MessageWord (behind_message f)) < 6
+    go : (b : Bool) → readings_left (cond b (Some awaiting.MessageWord) (behind_message f)) < 6
     go true = omega arith
     go false = omega (arith, message_left f)
 
 change_left : (f : LinkFlags) → readings_left (behind_change f) < 7
 change_left f = go f.link_if_term_pres
   where
-    go : (b : Bool) → readings_left (cond b awaiting.TermPresStatus (behind_sent f)) < 7
+    go : (b : Bool) → readings_left (cond b (Some awaiting.TermPresStatus) (behind_sent f)) < 7
     go true = omega arith
     go false = omega (arith, sent_left f)
 
@@ -98,7 +96,7 @@ status_heard_left : (ep0 revision : ℕ) (a : Awaited) (f : LinkEffect) (l : Lin
 status_heard_left ep0 revision a f l = go (capability_due revision a)
   where
     go : (b : Bool)
-        → readings_left (cond b (record { effect = f; awaited = asked (seeing a l) awaiting.PortCapability; ops = link_ack_ops number.link_if_rx_set_fc }) (from_change ep0 (seeing a l) l f [])).awaited.next < 8
+        → readings_left (cond b (record { effect = f; awaited = asked (seeing a l) (Some awaiting.PortCapability); ops = link_ack_ops number.link_if_rx_set_fc }) (from_change ep0 (seeing a l) l f [])).awaited.next < 8
     go true = omega arith
     go false = omega (arith, change_left a.flags)
 
@@ -106,7 +104,7 @@ endpoint_left : (s : State) (e : ℕ) (incoming : Bool) → readings_left (endpo
 endpoint_left s e incoming = go (eqb e 0) (leb e 7) incoming
   where
     go : (b c d : Bool)
-        → readings_left (cond b (asking s (asked s.awaited (ep0_reading d)) []) (cond c (cond d (over (report_state s e true 0 0) (report_ops s e true 0 0)) (asking s (chain_asked s.awaited e) [])) (over s []))).awaited.next < 3
+        → readings_left (cond b (asking s (asked s.awaited (Some (ep0_reading d))) []) (cond c (cond d (over (report_state s e true 0 0) (report_ops s e true 0 0)) (asking s (chain_asked s.awaited e) [])) (over s []))).awaited.next < 3
     go true c true = omega arith
     go true c false = omega arith
     go false true true = omega arith
@@ -118,7 +116,7 @@ unfolding status_turn
 status_left s t = go t.udif_status t.udif_setup t.uif_transfer
   where
     go : (a b c : Bool)
-        → readings_left (cond a (over (status_done s) (status_ops s.has_address s.address)) (cond b (asking s (asked s.awaited awaiting.SetupBytes) setup_ops) (cond c (endpoint_turn s t.ep_id t.ep_dir) (over s (status_others_ops t.uif_itp t.uif_rx_ping t.uif_fifo_txov t.uif_fifo_rxov))))).awaited.next < 3
+        → readings_left (cond a (over (status_done s) (status_ops s.address)) (cond b (asking s (asked s.awaited (Some awaiting.SetupBytes)) setup_ops) (cond c (endpoint_turn s t.ep_id t.ep_dir) (over s (status_others_ops t.uif_itp t.uif_rx_ping t.uif_fifo_txov t.uif_fifo_rxov))))).awaited.next < 3
     go true b c = omega arith
     go false true c = omega arith
     go false false true = endpoint_left s t.ep_id t.ep_dir
@@ -155,11 +153,11 @@ module _ (s : State) (v : Events) where
       }
 
   -- Each accepted reading ends the interrupt, or leads to one that is later in the sequence.
-  pub moves_on : (room : ℕ) (r : Reading) → first_refusal (answer_conditions room s v r) ≡ Fits
+  pub moves_on : (room : ℕ) (r : Reading) → first_refusal (answer_conditions room s v r) ≡ Ok tt
       → readings_left (answer_call room s v r).state.awaited.next < readings_left s.awaited.next
   unfolding answer_call
   moves_on room r e =
-      let k = accepted Refused (answer_conditions room s v r) s v (answered s v (matched_as s.awaited.next r)) e in
+      let k = accepted Err (answer_conditions room s v r) s v (answered s v (matched_as s.awaited.next r)) e in
       let t = tested_reading room s v r k.0 in
       rw (k.1, (left_at_lem s.awaited.next).0) (each_reading (λ n m. readings_left (answered_at s v n m).state.awaited.next < left_at n) each_moves s.awaited.next r t.matches t.range)
 
@@ -178,16 +176,16 @@ at_most_nine s v gs all = omega (arith, no_more_than_left s v gs all, (left_at_l
 
 -- An interrupt that is begun with power awaits the link's flags, all nine being left; without power it has ended.
 module _ (room : ℕ) (s : State) (v : Events) where
-  begun_call : first_refusal (interrupt_conditions room s v) ≡ Fits → interrupt_call room s v ≡ settled s v (first_awaited s.powered) []
+  begun_call : first_refusal (interrupt_conditions room s v) ≡ Ok tt → interrupt_call room s v ≡ settled s v (first_awaited s.powered) []
   unfolding interrupt_call
-  begun_call e = (accepted Refused (interrupt_conditions room s v) s v (settled s v (first_awaited s.powered) []) e).1
+  begun_call e = (accepted Err (interrupt_conditions room s v) s v (settled s v (first_awaited s.powered) []) e).1
 
-  pub begun_with_power : first_refusal (interrupt_conditions room s v) ≡ Fits → s.powered ≡ true
-      → ((interrupt_call room s v).answer ≡ Awaits awaiting.LinkFlags) × ((interrupt_call room s v).state.awaited.next ≡ awaiting.LinkFlags)
+  pub begun_with_power : first_refusal (interrupt_conditions room s v) ≡ Ok tt → s.powered ≡ true
+      → ((interrupt_call room s v).answer ≡ Ok (Some awaiting.LinkFlags)) × ((interrupt_call room s v).state.awaited.next ≡ Some awaiting.LinkFlags)
   unfolding settled
   begun_with_power e on = rw (begun_call e, on) (refl, refl)
 
-  pub begun_without : first_refusal (interrupt_conditions room s v) ≡ Fits → s.powered ≡ false
-      → ((interrupt_call room s v).answer ≡ Ended) × ((interrupt_call room s v).state.awaited.next ≡ awaiting.Nothing)
+  pub begun_without : first_refusal (interrupt_conditions room s v) ≡ Ok tt → s.powered ≡ false
+      → ((interrupt_call room s v).answer ≡ (Ok None)) × ((interrupt_call room s v).state.awaited.next ≡ None)
   unfolding settled
   begun_without e off = rw (begun_call e, off) (refl, refl)

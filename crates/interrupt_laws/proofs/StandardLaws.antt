@@ -1,6 +1,6 @@
 -- Messages and sequence numbers are as USB 3.2 has them.
 -- Assumes nothing.
-use Rattle.std.specs.Prelude.{ℕ, zero, suc, ◌+◌, ◌/◌, ◌%◌, ◌^◌, ◌≤◌, ◌<◌, Bool, true, false, ◌&&◌, cond, List, [], ◌≡◌, eqb, ltb, length}
+use Rattle.std.specs.Prelude.{ℕ, zero, suc, ◌+◌, ◌/◌, ◌%◌, ◌^◌, ◌≤◌, ◌<◌, Bool, true, false, ◌&&◌, cond, List, [], ◌≡◌, eqb, ltb, length, Ok, Err}
 use Rattle.std.proofs.Math.Path.{refl}
 use Rattle.std.proofs.Common.{sym, subst, arith, eqb-true, ne_eqb}
 use Rattle.ops.specs.Ops.{Op}
@@ -9,7 +9,6 @@ use Rattle.regs_link.specs.Link.{link_power_allow_ops, tx_port_cap_ops, tx_port_
 use Rattle.state.specs.declared.State.{State}
 use Rattle.state.specs.declared.Events.{Events}
 use Rattle.state.specs.declared.Reading.TheVariants as reading
-use Rattle.state.specs.declared.Check.TheVariants.{Fits}
 use Rattle.state.specs.Fresh.{slot_at}
 use Rattle.state.specs.Refusals.{first_refusal}
 use Rattle.state.specs.Setters.{with_sequence}
@@ -17,10 +16,8 @@ use Rattle.state_slots.specs.Slots.{busyb}
 use Rattle.state_slots.specs.Completing.{complete_at}
 use Rattle.state_call.specs.OutcomeLaws.{accepted, keeps}
 use Rattle.control_report.specs.Ep0.{status_follows, packet_sent}
-use Rattle.control_stage.specs.declared.StageAnswer.TheVariants as stage
 use Rattle.control_stage.specs.Stage.{ep0_unfit}
 use Rattle.control_in.specs.DataIn.{next_sequence, data_in_conditions, data_in_call}
-use Rattle.interrupt_asks.specs.declared.InterruptAnswer.TheVariants.{Refused}
 use Rattle.interrupt_asks.specs.Settled.{settled}
 use Rattle.interrupt_readings.specs.Matched.{matched_as}
 use Rattle.interrupt_followers.specs.Followers.{heard_transfer}
@@ -96,16 +93,16 @@ sent_under n held r (suc k) l =
 
 -- An accepted IN stage sends under that number, by what the state holds;
 module _ (room : ℕ) (s : State) (v : Events) (generation : ℕ) (bytes : List ℕ) (address size : ℕ) (first last : Bool) where
-  pub stage_sends : first_refusal (data_in_conditions room s v generation (length bytes) (ep0_unfit s address size)) ≡ Fits
+  pub stage_sends : first_refusal (data_in_conditions room s v generation (length bytes) (ep0_unfit s address size)) ≡ Ok tt
       → (data_in_call room s v generation bytes address size first last).ops ≡ ep0_tx_ready_ops (next_sequence first s.tx_seq) (length bytes)
   unfolding data_in_call
-  stage_sends e = rw (accepted stage.Refused (data_in_conditions room s v generation (length bytes) (ep0_unfit s address size)) s v _ e).1
+  stage_sends e = rw (accepted Err (data_in_conditions room s v generation (length bytes) (ep0_unfit s address size)) s v _ e).1
 
   -- it leaves what the state holds,
   pub stage_leaves : (data_in_call room s v generation bytes address size first last).state.tx_seq ≡ s.tx_seq
   unfolding data_in_call
   stage_leaves =
-      keeps (λ (t : State) (u : Events). t.tx_seq ≡ s.tx_seq) stage.Refused (data_in_conditions room s v generation (length bytes) (ep0_unfit s address size)) s v _ refl (λ n. refl)
+      keeps (λ (t : State) (u : Events). t.tx_seq ≡ s.tx_seq) Err (data_in_conditions room s v generation (length bytes) (ep0_unfit s address size)) s v _ refl (λ n. refl)
 
 -- which becomes what the report says, once that is accepted.
 packet_holds : (s : State) (q : ℕ) → (packet_sent s q).tx_seq ≡ q
@@ -116,9 +113,9 @@ packet_holds s q = go (status_follows s) (busyb (slot_at (with_sequence s q) 1).
     go false true = refl
     go false false = refl
 
-pub report_holds : (room : ℕ) (s : State) (v : Events) (q : ℕ) → first_refusal (answer_conditions room s v (reading.Ep0Sequence q)) ≡ Fits
+pub report_holds : (room : ℕ) (s : State) (v : Events) (q : ℕ) → first_refusal (answer_conditions room s v (reading.Ep0Sequence q)) ≡ Ok tt
     → (answer_call room s v (reading.Ep0Sequence q)).state.tx_seq ≡ q
 unfolding answer_call heard_transfer settled
 report_holds room s v q e =
-    let k = accepted Refused (answer_conditions room s v (reading.Ep0Sequence q)) s v (answered s v (matched_as s.awaited.next (reading.Ep0Sequence q))) e in
+    let k = accepted Err (answer_conditions room s v (reading.Ep0Sequence q)) s v (answered s v (matched_as s.awaited.next (reading.Ep0Sequence q))) e in
     rw (k.1, sequence_place s.awaited.next q (tested_reading room s v (reading.Ep0Sequence q) k.0).matches) (packet_holds s q)

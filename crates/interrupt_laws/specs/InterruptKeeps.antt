@@ -1,6 +1,6 @@
 -- An interrupt's calls keep a state sound, and the account of every data slot.
 -- Assumes nothing.
-use Rattle.std.specs.Prelude.{ℕ, not, ◌&&◌, ◌||◌, ◌≡◌, eqb, leb}
+use Rattle.std.specs.Prelude.{ℕ, not, ◌&&◌, ◌||◌, ◌≡◌, eqb, leb, Err, Option, Some, None}
 use Rattle.std.proofs.Math.Bool.{Bool, true, false, cond}
 use mathlib.Core.List.{List, []}
 use Rattle.std.proofs.Math.Path.{refl}
@@ -15,7 +15,6 @@ use Rattle.state.specs.declared.LinkFlags.{LinkFlags}
 use Rattle.state.specs.declared.LinkState.{LinkState}
 use Rattle.state.specs.declared.LinkState.TheVariants as link
 use Rattle.state.specs.declared.TransferStatus.{TransferStatus}
-use Rattle.state.specs.declared.Setup.{Setup}
 use Rattle.state.specs.declared.Slot.{Slot}
 use Rattle.state.specs.declared.Awaiting.{Awaiting}
 use Rattle.state.specs.declared.Awaiting.TheVariants as awaiting
@@ -33,7 +32,7 @@ use Rattle.state_events.specs.declared.Event.TheVariants as event
 use Rattle.state_events.specs.Bytes.{events_soundb}
 use Rattle.state_events.specs.Events.{event_number, raise_event}
 use Rattle.state_sound.specs.Sound.{soundb}
-use Rattle.state_sound.specs.FactLaws.{own_facts}
+use Rattle.state_sound.proofs.FactLaws.{own_facts}
 use Rattle.state_laws.specs.EventsLaws.{raise_sound}
 use Rattle.state_call.specs.OutcomeLaws.{passed}
 use Rattle.transfer_report.specs.Report.{report_state, report_ops}
@@ -43,12 +42,12 @@ use Rattle.control_report.specs.Ep0.{setup_ops, setup_received, status_ops, stat
 use Rattle.control_laws.specs.KeptLaws.{KeepsAll, KeepsWorld, call_keeps, all_same, all_either, all_events, all_link, all_wake, all_ended, all_awaited, all_control, all_stage, all_ep0, all_complete, all_control_reset, all_bus_reset}
 use Rattle.interrupt_link.specs.declared.LinkEffect.{LinkEffect}
 use Rattle.interrupt_link.specs.Actions.{raise_if, awake, resumed, trained, suspends, link_change, changed, term_gone, link_reset}
-use Rattle.interrupt_asks.specs.declared.InterruptAnswer.TheVariants.{Refused}
+use Rattle.interrupt_asks.specs.Turns.{Heard}
 use Rattle.interrupt_asks.specs.Asking.{asked, behind_timeout, behind_message, behind_sent, behind_change}
 use Rattle.interrupt_asks.specs.Settled.{settled_at, settled}
 use Rattle.interrupt_transfer.specs.Transfers.{Turned, over, asking, chain_asked, last_asked, ep0_reading, endpoint_turn, status_turn}
 use Rattle.interrupt_readings.specs.Matched.{Matched, matched_as, link_flags, capability, term_status, message, warm_status}
-use Rattle.interrupt_readings.specs.Heard.{LinkHeard, seeing, from_change, status_heard, capability_due, heard_link}
+use Rattle.interrupt_readings.specs.Heard.{seeing, from_change, status_heard, capability_due, heard_link}
 use Rattle.interrupt_followers.specs.Followers.{heard_transfer}
 use Rattle.interrupt_begin.specs.Begin.{interrupt_conditions, first_awaited, interrupt_call}
 use Rattle.interrupt.specs.Interrupt.{answer_conditions, link_before, link_flags_of, link_after, link_settled, answered, answer_call}
@@ -91,20 +90,20 @@ changed_events flag l f h = effect_either flag (link_change l f) f (change_event
 
 -- ---- what is awaited behind the link's readings is of no chain
 
-plain_either : (b : Bool) (x y : Awaiting) → chain_readingb x ≡ false → chain_readingb y ≡ false → chain_readingb (cond b x y) ≡ false
+plain_either : (b : Bool) (x y : Option Awaiting) → chain_readingb x ≡ false → chain_readingb y ≡ false → chain_readingb (cond b x y) ≡ false
 plain_either true x y h k = h
 plain_either false x y h k = k
 
 plain_message : (f : LinkFlags) → chain_readingb (behind_message f) ≡ false
 plain_message f =
-    plain_either f.link_if_rx_lmp_tout awaiting.Nothing (behind_timeout f) refl
-    (plain_either f.link_if_warm_rst awaiting.WarmResetStatus awaiting.TransferStatus refl refl)
+    plain_either f.link_if_rx_lmp_tout None (behind_timeout f) refl
+    (plain_either f.link_if_warm_rst (Some awaiting.WarmResetStatus) (Some awaiting.TransferStatus) refl refl)
 
 plain_sent : (f : LinkFlags) → chain_readingb (behind_sent f) ≡ false
-plain_sent f = plain_either f.link_if_rx_lmp awaiting.MessageWord (behind_message f) refl (plain_message f)
+plain_sent f = plain_either f.link_if_rx_lmp (Some awaiting.MessageWord) (behind_message f) refl (plain_message f)
 
 plain_change : (f : LinkFlags) → chain_readingb (behind_change f) ≡ false
-plain_change f = plain_either f.link_if_term_pres awaiting.TermPresStatus (behind_sent f) refl (plain_sent f)
+plain_change f = plain_either f.link_if_term_pres (Some awaiting.TermPresStatus) (behind_sent f) refl (plain_sent f)
 
 -- ---- what is kept where a reading is accepted
 
@@ -132,7 +131,7 @@ module _ (s : State) (v : Events) (h : soundb s v ≡ true) (on : s.powered ≡ 
   asks : (a : Awaited) (ops : List Op) → (not (chain_readingb a.next) || (leb 1 a.endpoint && leb a.endpoint 7)) ≡ true → Settles s v a ops
   asks a ops chain = settles s v a ops (all_same s v h) on chain
 
-  link_settles : (x : LinkHeard) → SoundEvents x.effect.events → chain_readingb x.awaited.next ≡ false
+  link_settles : (x : Heard LinkEffect) → SoundEvents x.effect.events → chain_readingb x.awaited.next ≡ false
       → KeepsAll s (link_settled s x).state (link_settled s x).events
   link_settles x sound plain =
       settles (link_after s x.effect) x.effect.events x.awaited x.ops
@@ -155,10 +154,10 @@ module _ (s : State) (v : Events) (h : soundb s v ≡ true) (on : s.powered ≡ 
       a : Awaited
       a = seeing s.awaited l
 
-      due : LinkHeard
-      due = record { effect = link_before s v; awaited = asked a awaiting.PortCapability; ops = link_ack_ops number.link_if_rx_set_fc }
+      due : Heard LinkEffect
+      due = record { effect = link_before s v; awaited = asked a (Some awaiting.PortCapability); ops = link_ack_ops number.link_if_rx_set_fc }
 
-      rest : LinkHeard
+      rest : Heard LinkEffect
       rest = from_change s.ep0_address a l (link_before s v) []
 
       go : (b : Bool) → KeepsAll s (link_settled s (cond b due rest)).state (link_settled s (cond b due rest)).events
@@ -174,18 +173,18 @@ module _ (s : State) (v : Events) (h : soundb s v ≡ true) (on : s.powered ≡ 
   endpoint_settles e incoming = go (eqb e 0) refl (leb e 7) refl incoming
     where
       turn : Bool → Bool → Bool → Turned
-      turn b c d = cond b (asking s (asked s.awaited (ep0_reading d)) []) (cond c (cond d (over (report_state s e true 0 0) (report_ops s e true 0 0)) (asking s (chain_asked s.awaited e) [])) (over s []))
+      turn b c d = cond b (asking s (asked s.awaited (Some (ep0_reading d))) []) (cond c (cond d (over (report_state s e true 0 0) (report_ops s e true 0 0)) (asking s (chain_asked s.awaited e) [])) (over s []))
 
       go : (b : Bool) → eqb e 0 ≡ b → (c : Bool) → leb e 7 ≡ c → (d : Bool) → Settles (turn b c d).state v (turn b c d).awaited (turn b c d).ops
-      go true p c q true = asks (asked s.awaited awaiting.Ep0Sequence) [] refl
-      go true p c q false = asks (asked s.awaited awaiting.Ep0Length) [] refl
+      go true p c q true = asks (asked s.awaited (Some awaiting.Ep0Sequence)) [] refl
+      go true p c q false = asks (asked s.awaited (Some awaiting.Ep0Length)) [] refl
       go false p true q true = ends (report_state s e true 0 0) (report_ops s e true 0 0) (reported_all e true 0 0)
       go false p true q false = asks (chain_asked s.awaited e) [] (and_both (leb 1 e) (leb e 7) (le-leb 1 e (omega (arith, eqb-false e 0 p))) q)
       go false p false q d = ends s [] (all_same s v h)
 
   -- the address that waited waits no longer
   status_done_lem : KeepsAll s (status_done s) v
-  status_done_lem = all_complete s (with_stage s s.in_last false s.address) v (all_stage s s v (all_same s v h) s.in_last false s.address refl) 1 refl
+  status_done_lem = all_complete s (with_stage s s.in_last None) v (all_stage s s v (all_same s v h) s.in_last None refl) 1 refl
 
   transfer_settles : (t : TransferStatus) → Settles (status_turn s t).state v (status_turn s t).awaited (status_turn s t).ops
   unfolding status_turn
@@ -193,17 +192,17 @@ module _ (s : State) (v : Events) (h : soundb s v ≡ true) (on : s.powered ≡ 
     where
       turn : Bool → Bool → Bool → Turned
       turn a b c =
-          cond a (over (status_done s) (status_ops s.has_address s.address))
-          (cond b (asking s (asked s.awaited awaiting.SetupBytes) setup_ops)
+          cond a (over (status_done s) (status_ops s.address))
+          (cond b (asking s (asked s.awaited (Some awaiting.SetupBytes)) setup_ops)
           (cond c (endpoint_turn s t.ep_id t.ep_dir) (over s (status_others_ops t.uif_itp t.uif_rx_ping t.uif_fifo_txov t.uif_fifo_rxov))))
 
       go : (a b c : Bool) → Settles (turn a b c).state v (turn a b c).awaited (turn a b c).ops
       go true b c = ends (status_done s) _ status_done_lem
-      go false true c = asks (asked s.awaited awaiting.SetupBytes) setup_ops refl
+      go false true c = asks (asked s.awaited (Some awaiting.SetupBytes)) setup_ops refl
       go false false true = endpoint_settles t.ep_id t.ep_dir
       go false false false = ends s _ (all_same s v h)
 
-  setup_received_lem : (b : Setup) → KeepsAll s (setup_received s b) v
+  setup_received_lem : (b : List ℕ) → KeepsAll s (setup_received s b) v
   setup_received_lem b =
       let k = all_control_reset s s v (all_same s v h) in
       let o = own_facts (control_reset s) v k.sound in
@@ -211,21 +210,21 @@ module _ (s : State) (v : Events) (h : soundb s v ≡ true) (on : s.powered ≡ 
 
   length_received_lem : (n : ℕ) → KeepsAll s (length_received s n) v
   length_received_lem n =
-      all_wake s (with_slot s 0 (completed_slot x)) v (all_ep0 s s v (all_same s v h) 0 (completed_slot x) refl (same (busyb x.phase)).0 (same (busyb x.phase)).1) _
+      all_wake s (with_slot s 0 (completed_slot x)) v (all_ep0 s s v (all_same s v h) 0 (completed_slot x) refl (same (busyb x.phase))) _
     where
       x : Slot
       x = received_slot n (slot_at s 0)
 
-      same : (b : Bool) → ((cond b (done_slot x) x).configured ≡ (slot_at s 0).configured) × ((cond b (done_slot x) x).config ≡ (slot_at s 0).config)
-      same true = (refl, refl)
-      same false = (refl, refl)
+      same : (b : Bool) → (cond b (done_slot x) x).config ≡ (slot_at s 0).config
+      same true = refl
+      same false = refl
 
   packet_sent_lem : (q : ℕ) → leb q 31 ≡ true → KeepsAll s (packet_sent s q) v
   packet_sent_lem q b =
       let k : KeepsAll s (with_sequence s q) v = all_control s s v (all_same s v h) _ (own_facts s v h).address b in
       all_either (status_follows s) s (with_sequence s q) (complete (with_sequence s q) 1) v k (all_complete s (with_sequence s q) v k 1 refl)
 
-  abbrev heard : Matched → LinkHeard
+  abbrev heard : Matched → Heard LinkEffect
   heard m = heard_link s.ep0_address s.revision s.awaited (link_before s v) m
 
   -- each of the twelve, the awaited one being in place n
@@ -256,7 +255,7 @@ module _ (room : ℕ) (s : State) (v : Events) where
   pub answer_keeps : (r : Reading) → KeepsWorld s v (answer_call room s v r)
   unfolding answer_call
   answer_keeps r =
-      call_keeps Refused (answer_conditions room s v r) s v (answered s v (matched_as s.awaited.next r)) (λ n. (tested_reading room s v r n).sound)
+      call_keeps Err (answer_conditions room s v r) s v (answered s v (matched_as s.awaited.next r)) (λ n. (tested_reading room s v r n).sound)
       (λ h n. let t = tested_reading room s v r n in
       each_reading (λ i m. awaiting_number s.awaited.next ≡ i → KeepsAll s (answered_at s v i m).state (answered_at s v i m).events)
       (each_settles s v h (implied (awaitingb s.awaited.next) s.powered t.under_way (own_facts s v h).awaited)) s.awaited.next r t.matches t.range refl)
@@ -265,7 +264,7 @@ module _ (room : ℕ) (s : State) (v : Events) where
   pub interrupt_keeps : KeepsWorld s v (interrupt_call room s v)
   unfolding interrupt_call
   interrupt_keeps =
-      call_keeps Refused (interrupt_conditions room s v) s v (settled s v (first_awaited s.powered) []) (λ n. (passed room (soundb s v) s.awaited.next [] n).1.0)
+      call_keeps Err (interrupt_conditions room s v) s v (settled s v (first_awaited s.powered) []) (λ n. (passed room (soundb s v) s.awaited.next [] n).1.0)
       (λ h n. go h s.powered refl)
     where
       go : soundb s v ≡ true → (b : Bool) → s.powered ≡ b → KeepsAll s (settled s v (first_awaited b) []).state (settled s v (first_awaited b) []).events

@@ -12,7 +12,7 @@ use Rattle.state.specs.declared.Reading.TheVariants as reading
 use Rattle.state.specs.declared.State.{State}
 use Rattle.state.specs.Setters.{with_power}
 use Rattle.state_sound.specs.Sound.{soundb}
-use Rattle.state_sound.specs.FaultLaws.{running, no_events}
+use Rattle.state_sound.proofs.FaultLaws.{running, no_events}
 use Rattle.state_call.specs.Outcome.{or_else}
 use Rattle.interrupt_asks.specs.Settled.{settled}
 use Rattle.interrupt_transfer.specs.Transfers.{status_turn}

@@ -1,6 +1,6 @@
 -- An accepted reading is one of twelve, each in its place of the sequence.
 -- Assumes nothing.
-use Rattle.std.specs.Prelude.{ℕ, ◌<◌, Bool, true, false, not, ◌||◌, cond, ◌≡◌, leb}
+use Rattle.std.specs.Prelude.{ℕ, ◌<◌, Bool, true, false, not, ◌||◌, cond, ◌≡◌, List, leb, Option, Some, None, Result}
 use Rattle.std.proofs.Math.Path.{refl}
 use Rattle.std.proofs.Common.{sym, subst, arith, eqb-true}
 use Rattle.std.proofs.lemmas.Bool.{not-false}
@@ -10,13 +10,13 @@ use Rattle.base.specs.EachLaws.{every_at, implied, true_not_false}
 use Rattle.state.specs.declared.LinkFlags.{LinkFlags}
 use Rattle.state.specs.declared.LinkStatus.{LinkStatus}
 use Rattle.state.specs.declared.TransferStatus.{TransferStatus}
-use Rattle.state.specs.declared.Setup.{Setup}
 use Rattle.state.specs.declared.Awaiting.{Awaiting}
 use Rattle.state.specs.declared.Awaiting.TheVariants as awaiting
 use Rattle.state.specs.declared.Reading.{Reading}
 use Rattle.state.specs.declared.Reading.TheVariants as reading
 use Rattle.state.specs.declared.State.{State}
 use Rattle.state.specs.declared.Events.{Events}
+use Rattle.state.specs.declared.Refusal.{Refusal}
 use Rattle.state.specs.Awaiting.{awaiting_number, awaitingb}
 use Rattle.state.specs.Numbers.{reading_in_range}
 use Rattle.state.specs.Refusals.{NoneDue}
@@ -24,7 +24,6 @@ use Rattle.state.specs.RefusalsLaws.{not_due}
 use Rattle.state_sound.specs.Sound.{soundb}
 use Rattle.state_call.specs.Outcome.{Outcome}
 use Rattle.state_call.specs.OutcomeLaws.{passed_reading}
-use Rattle.interrupt_asks.specs.declared.InterruptAnswer.{InterruptAnswer}
 use Rattle.interrupt_readings.specs.Matched.{Matched, link_flags, link_status, capability, term_status, message, warm_status, transfer_status, setup_bytes, ep0_length, ep0_sequence, chain_packets, last_length, wanted_kind, matched, matchesb, matched_as}
 use Rattle.interrupt_readings.specs.Heard.{heard_link}
 use Rattle.interrupt_followers.specs.Followers.{heard_transfer}
@@ -39,23 +38,23 @@ kind_at n =
     (cond (eqb n 5) 4
     (cond (eqb n 7) 5 (cond (eqb n 8) 6 (cond (eqb n 9) 7 (cond (eqb n 10) 8 (cond (eqb n 11) 9 (cond (eqb n 12) 10 0)))))))))
 
-numbered : (a : Awaiting) → (wanted_kind a ≡ kind_at (awaiting_number a)) × (awaiting_number a < 13)
-numbered awaiting.Nothing = (refl, omega arith)
-numbered awaiting.LinkFlags = (refl, omega arith)
-numbered awaiting.LinkStatus = (refl, omega arith)
-numbered awaiting.PortCapability = (refl, omega arith)
-numbered awaiting.TermPresStatus = (refl, omega arith)
-numbered awaiting.MessageWord = (refl, omega arith)
-numbered awaiting.WarmResetStatus = (refl, omega arith)
-numbered awaiting.TransferStatus = (refl, omega arith)
-numbered awaiting.SetupBytes = (refl, omega arith)
-numbered awaiting.Ep0Length = (refl, omega arith)
-numbered awaiting.Ep0Sequence = (refl, omega arith)
-numbered awaiting.ChainPackets = (refl, omega arith)
-numbered awaiting.LastLength = (refl, omega arith)
+numbered : (a : Option Awaiting) → (wanted_kind a ≡ kind_at (awaiting_number a)) × (awaiting_number a < 13)
+numbered None = (refl, omega arith)
+numbered (Some awaiting.LinkFlags) = (refl, omega arith)
+numbered (Some awaiting.LinkStatus) = (refl, omega arith)
+numbered (Some awaiting.PortCapability) = (refl, omega arith)
+numbered (Some awaiting.TermPresStatus) = (refl, omega arith)
+numbered (Some awaiting.MessageWord) = (refl, omega arith)
+numbered (Some awaiting.WarmResetStatus) = (refl, omega arith)
+numbered (Some awaiting.TransferStatus) = (refl, omega arith)
+numbered (Some awaiting.SetupBytes) = (refl, omega arith)
+numbered (Some awaiting.Ep0Length) = (refl, omega arith)
+numbered (Some awaiting.Ep0Sequence) = (refl, omega arith)
+numbered (Some awaiting.ChainPackets) = (refl, omega arith)
+numbered (Some awaiting.LastLength) = (refl, omega arith)
 
 -- what holds of every place whose reading is of kind k, holds of the awaited one of that kind
-of_kind : (k : ℕ) (P : ℕ → Bool) → every (λ n. not (eqb (kind_at n) k) || P n) 13 ≡ true → (a : Awaiting) → eqb (wanted_kind a) k ≡ true → P (awaiting_number a) ≡ true
+of_kind : (k : ℕ) (P : ℕ → Bool) → every (λ n. not (eqb (kind_at n) k) || P n) 13 ≡ true → (a : Option Awaiting) → eqb (wanted_kind a) k ≡ true → P (awaiting_number a) ≡ true
 of_kind k P h a e =
     let n = numbered a in
     implied (eqb (kind_at (awaiting_number a)) k) (P (awaiting_number a)) (rw n.0 at e) (every_at (λ i. not (eqb (kind_at i) k) || P i) 13 (awaiting_number a) h n.1)
@@ -69,13 +68,13 @@ pub record EachReading (P : ℕ → Matched → Type 0) : Type 0 where
   pub on_message : (w : ℕ) → P 5 (message w)
   pub on_warm : (r : LinkStatus) → P 6 (warm_status r)
   pub on_transfer : (t : TransferStatus) → P 7 (transfer_status t)
-  pub on_setup : (b : Setup) → P 8 (setup_bytes b)
+  pub on_setup : (b : List ℕ) → P 8 (setup_bytes b)
   pub on_bytes : (l : ℕ) → P 9 (ep0_length l)
   pub on_sequence : (q : ℕ) → leb q 31 ≡ true → P 10 (ep0_sequence q)
   pub on_packets : (p : ℕ) → P 11 (chain_packets p)
   pub on_last : (l : ℕ) → P 12 (last_length l)
 
-module _ (P : ℕ → Matched → Type 0) (e : EachReading P) (a : Awaiting) where
+module _ (P : ℕ → Matched → Type 0) (e : EachReading P) (a : Option Awaiting) where
   at_place : (n : ℕ) (r : Reading) → eqb (awaiting_number a) n ≡ true → P n (matched n r) → P (awaiting_number a) (matched_as a r)
   at_place n r q h = subst (λ (k : ℕ). P k (matched k r)) (sym (eqb-true (awaiting_number a) n q)) h
 
@@ -102,12 +101,12 @@ module _ (P : ℕ → Matched → Type 0) (e : EachReading P) (a : Awaiting) whe
   each_reading (reading.LastLength l) h k = at_place 12 (reading.LastLength l) (of_kind 10 (λ n. eqb n 12) refl a h) (e.on_last l)
 
 -- a report of endpoint 0's IN packet has the tenth place
-pub sequence_place : (a : Awaiting) (q : ℕ) → matchesb a (reading.Ep0Sequence q) ≡ true → awaiting_number a ≡ 10
+pub sequence_place : (a : Option Awaiting) (q : ℕ) → matchesb a (reading.Ep0Sequence q) ≡ true → awaiting_number a ≡ 10
 unfolding every
 sequence_place a q h = eqb-true _ 10 (of_kind 8 (λ n. eqb n 10) refl a h)
 
 -- what a reading leads to, by its place
-abbrev pub answered_at : State → Events → ℕ → Matched → Outcome InterruptAnswer
+abbrev pub answered_at : State → Events → ℕ → Matched → Outcome (Result (Option Awaiting) Refusal)
 answered_at s v n m =
     cond (leb n 6) (link_settled s (heard_link s.ep0_address s.revision s.awaited (link_before s v) m)) (transfer_settled v (heard_transfer s m))
 

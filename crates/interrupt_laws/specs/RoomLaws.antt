@@ -1,6 +1,6 @@
 -- No list of an interrupt takes over 94 records, of the 128 that there is room for; one takes 94.
 -- Assumes nothing.
-use Rattle.std.specs.Prelude.{ℕ, ◌+◌, ◌≤◌, Bool, true, false, cond, List, [], ◌++◌, ◌≡◌, refl, eqb, leb, length}
+use Rattle.std.specs.Prelude.{ℕ, ◌+◌, ◌≤◌, Bool, true, false, cond, List, [], ◌++◌, ◌≡◌, refl, eqb, leb, length, Err, Option, Some, Result}
 use Rattle.std.proofs.Common.{sym, arith, length-append}
 use Rattle.base.specs.Each.{every}
 use Rattle.ops.specs.Numbers as number
@@ -14,6 +14,7 @@ use Rattle.regs_endpoint.specs.Endpoint.{chain_ack_ops}
 use Rattle.state.specs.declared.LinkFlags.{LinkFlags}
 use Rattle.state.specs.declared.LinkState.{LinkState}
 use Rattle.state.specs.declared.LinkState.TheVariants as link
+use Rattle.state.specs.declared.Awaiting.{Awaiting}
 use Rattle.state.specs.declared.Awaiting.TheVariants as awaiting
 use Rattle.state.specs.declared.Awaited.{Awaited}
 use Rattle.state.specs.declared.Reading.{Reading}
@@ -21,12 +22,13 @@ use Rattle.state.specs.declared.Reading.TheVariants as reading
 use Rattle.state.specs.declared.TransferStatus.{TransferStatus}
 use Rattle.state.specs.declared.State.{State}
 use Rattle.state.specs.declared.Events.{Events}
+use Rattle.state.specs.declared.Refusal.{Refusal}
 use Rattle.state.specs.Awaiting.{awaiting_number}
 use Rattle.state.specs.Refusals.{first_refusal}
 use Rattle.state.specs.Setters.{limit_of, with_awaited}
 use Rattle.state_slots.specs.Slots.{slot_of}
 use Rattle.state_sound.specs.Sound.{soundb}
-use Rattle.state_sound.specs.FaultLaws.{running, no_events}
+use Rattle.state_sound.proofs.FaultLaws.{running, no_events}
 use Rattle.state_call.specs.Outcome.{Outcome, or_else, refusal}
 use Rattle.state_call.specs.OutcomeLaws.{or_either}
 use Rattle.transfer_chain.specs.ChainsLaws.{queue_most}
@@ -36,14 +38,12 @@ use Rattle.transfer_step.specs.declared.Step.{Step}
 use Rattle.transfer_step.specs.declared.Step.TheVariants.{Ignored, GoesOn, Completes}
 use Rattle.transfer_step.specs.Step.{report_step}
 use Rattle.transfer_report.specs.Report.{ops_after, report_state, report_ops}
-use Rattle.control_report.specs.Ep0.{setup_ops, status_ops, status_done, status_follows}
+use Rattle.control_report.specs.Ep0.{setup_ops, address_due, status_ops, status_done, status_follows}
 use Rattle.control_report.specs.Ep0Laws.{address_most}
-use Rattle.regs_control.specs.Control.{address_ops, status_ack_ops, ep0_tx_clear_ops, ep0_rx_ready_ops, status_others_ops, ep0_tx_answer_ops}
+use Rattle.regs_control.specs.Control.{status_ack_ops, ep0_tx_clear_ops, ep0_rx_ready_ops, status_others_ops, ep0_tx_answer_ops}
 use Rattle.interrupt_link.specs.declared.LinkEffect.{LinkEffect}
 use Rattle.interrupt_link.specs.Actions.{changed_ops, message_ops, warmed_ops}
 use Rattle.interrupt_link.specs.ActionsLaws.{either_most, changed_most, message_most}
-use Rattle.interrupt_asks.specs.declared.InterruptAnswer.{InterruptAnswer}
-use Rattle.interrupt_asks.specs.declared.InterruptAnswer.TheVariants.{Refused}
 use Rattle.interrupt_asks.specs.Asking.{asked, timeout_ops, behind_timeout_ops, behind_message_ops, behind_sent_ops, sent_ops, behind_term_ops, behind_change_ops}
 use Rattle.interrupt_asks.specs.AskingLaws.{sent_most}
 use Rattle.interrupt_asks.specs.Settled.{settled}
@@ -100,7 +100,7 @@ link_most ep0 revision a f (link_status r) = go (capability_due revision a)
     l = r.link_state
 
     go : (b : Bool)
-        → length (flat (cond b (record { effect = f; awaited = asked (seeing a l) awaiting.PortCapability; ops = link_ack_ops number.link_if_rx_set_fc }) (from_change ep0 (seeing a l) l f [])).ops)
+        → length (flat (cond b (record { effect = f; awaited = asked (seeing a l) (Some awaiting.PortCapability); ops = link_ack_ops number.link_if_rx_set_fc }) (from_change ep0 (seeing a l) l f [])).ops)
         ≤ records 94
     go true = omega arith
     go false = from_change_most ep0 (seeing a l) l f [] (omega arith)
@@ -139,19 +139,19 @@ endpoint_most : (s : State) (e : ℕ) (incoming : Bool) → length (flat (endpoi
 endpoint_most s e incoming = go (eqb e 0) (leb e 7) incoming
   where
     go : (b c d : Bool)
-        → length (flat (cond b (asking s (asked s.awaited (ep0_reading d)) []) (cond c (cond d (over (report_state s e true 0 0) (report_ops s e true 0 0)) (asking s (chain_asked s.awaited e) [])) (over s []))).ops)
+        → length (flat (cond b (asking s (asked s.awaited (Some (ep0_reading d))) []) (cond c (cond d (over (report_state s e true 0 0) (report_ops s e true 0 0)) (asking s (chain_asked s.awaited e) [])) (over s []))).ops)
         ≤ records 7
     go true c d = omega arith
     go false true true = report_most s e true 0 0
     go false true false = omega arith
     go false false d = omega arith
 
-status_ops_most : (has : Bool) (address : ℕ) → length (flat (status_ops has address)) ≤ records 7
-status_ops_most has address =
+status_ops_most : (address : Option ℕ) → length (flat (status_ops address)) ≤ records 7
+status_ops_most address =
     omega (
       arith,
-      both_most (status_ack_ops number.udif_status) (cond has (address_ops address) [] ++ (ep0_tx_clear_ops ++ ep0_rx_ready_ops)) (records 1) (records 4) (omega arith)
-          (both_most (cond has (address_ops address) []) (ep0_tx_clear_ops ++ ep0_rx_ready_ops) (records 1) (records 3) (address_most has address) (omega arith)),
+      both_most (status_ack_ops number.udif_status) (address_due address ++ (ep0_tx_clear_ops ++ ep0_rx_ready_ops)) (records 1) (records 4) (omega arith)
+          (both_most (address_due address) (ep0_tx_clear_ops ++ ep0_rx_ready_ops) (records 1) (records 3) (address_most address) (omega arith)),
     )
 
 status_most : (s : State) (t : TransferStatus) → length (flat (status_turn s t).ops) ≤ records 7
@@ -159,9 +159,9 @@ unfolding status_turn
 status_most s t = go t.udif_status t.udif_setup t.uif_transfer
   where
     go : (a b c : Bool)
-        → length (flat (cond a (over (status_done s) (status_ops s.has_address s.address)) (cond b (asking s (asked s.awaited awaiting.SetupBytes) setup_ops) (cond c (endpoint_turn s t.ep_id t.ep_dir) (over s (status_others_ops t.uif_itp t.uif_rx_ping t.uif_fifo_txov t.uif_fifo_rxov))))).ops)
+        → length (flat (cond a (over (status_done s) (status_ops s.address)) (cond b (asking s (asked s.awaited (Some awaiting.SetupBytes)) setup_ops) (cond c (endpoint_turn s t.ep_id t.ep_dir) (over s (status_others_ops t.uif_itp t.uif_rx_ping t.uif_fifo_txov t.uif_fifo_rxov))))).ops)
         ≤ records 7
-    go true b c = status_ops_most s.has_address s.address
+    go true b c = status_ops_most s.address
     go false true c = omega arith
     go false false true = endpoint_most s t.ep_id t.ep_dir
     go false false false = omega arith
@@ -199,21 +199,21 @@ answered_most s v m = go (leb (awaiting_number s.awaited.next) 6)
 pub answer_room : (room : ℕ) (s : State) (v : Events) (r : Reading) → length (flat (answer_call room s v r).ops) ≤ records 94
 unfolding answer_call
 answer_room room s v r =
-    or_either {B = Outcome InterruptAnswer} (λ o. length (flat o.ops) ≤ records 94) (first_refusal (answer_conditions room s v r)) (λ q. refusal (Refused q) s v)
+    or_either {B = Outcome (Result (Option Awaiting) Refusal)} (λ o. length (flat o.ops) ≤ records 94) (first_refusal (answer_conditions room s v r)) (λ q. refusal (Err q) s v)
     (answered s v (matched_as s.awaited.next r)) (λ q e. omega arith) (λ e. answered_most s v (matched_as s.awaited.next r))
 
 -- the begin's has none.
 pub interrupt_room : (room : ℕ) (s : State) (v : Events) → (interrupt_call room s v).ops ≡ []
 unfolding interrupt_call
 interrupt_room room s v =
-    or_either {B = Outcome InterruptAnswer} (λ o. o.ops ≡ []) (first_refusal (interrupt_conditions room s v)) (λ q. refusal (Refused q) s v)
+    or_either {B = Outcome (Result (Option Awaiting) Refusal)} (λ o. o.ops ≡ []) (first_refusal (interrupt_conditions room s v)) (λ q. refusal (Err q) s v)
     (settled s v (first_awaited s.powered) []) (λ q e. refl) (λ e. sym (settled_ops s v (first_awaited s.powered) []))
 
 -- 94 are reached: behind a hot reset, with the capability to be sent and a message timed out, where what was set comes first
 abbrev longest : Awaited
 longest =
     record {
-      next = awaiting.PortCapability;
+      next = Some awaiting.PortCapability;
       flags =
           record {
             link_if_tx_lmp = true;

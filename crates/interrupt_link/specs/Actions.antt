@@ -7,9 +7,7 @@ use Rattle.ops.specs.Numbers as number
 use Rattle.ops.specs.Ops.{Op}
 use Rattle.state.specs.declared.LinkState.{LinkState}
 use Rattle.state.specs.declared.LinkState.TheVariants as link
-use Rattle.state.specs.declared.State.{State}
 use Rattle.state.specs.declared.Events.{Events}
-use Rattle.state.specs.Setters.{with_link}
 use Rattle.state_events.specs.declared.Event.{Event}
 use Rattle.state_events.specs.declared.Event.TheVariants.{Reset, Suspend, Resume}
 use Rattle.state_events.specs.Events.{raise_event}

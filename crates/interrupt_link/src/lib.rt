@@ -7,8 +7,23 @@ ghost use Rattle.ops.specs.Ops.{records};
 ghost use Rattle.ops.specs.Wrote.{Wrote};
 ghost use Rattle.interrupt_link.specs.Actions.{raise_if, link_reset, term_present, lmp_subtype, message_ops, warmed, warmed_ops};
 
+use regs_device::bus_reset;
+use regs_link::{
+    delay_cycles, go_disabled, link_power_allow, tx_cap_vld, tx_port_cap, tx_port_cfg_res, u2_timer,
+};
 use state::Events;
-use state_events::Event;
+use state_events::{Event, raise_event};
+
+// The subtypes of link management packets that are heard (USB 3.2, 8.4.1).
+const SET_LINK_FUNCTION: u32 = 1;
+
+const U2_INACTIVITY_TIMEOUT: u32 = 2;
+
+const PORT_CAPABILITY: u32 = 4;
+
+const PORT_CONFIGURATION: u32 = 5;
+
+const PORT_CONFIGURATION_RESPONSE: u32 = 6;
 
 // What a reading of the link changes beside the registers: whether the bus is reset, the link's flags, the events.
 #[derive(Clone, Copy)]
@@ -30,7 +45,7 @@ pub fn raise_if(due: bool, events: Events, event: Event) -> Events
     ensures { result ≡ raise_if due events event }
 {
     if due {
-        return state_events::raise_event(events, event);
+        return raise_event(events, event);
     }
     events
 }
@@ -39,14 +54,12 @@ pub fn raise_if(due: bool, events: Events, event: Event) -> Events
 pub fn link_reset(effect: LinkEffect) -> LinkEffect
     ensures { result ≡ link_reset effect }
 {
-    let events = effect.events;
-    let raised = state_events::raise_event(events, Event::Reset);
     LinkEffect {
         resets: true,
         suspended: false,
         reset_seen: true,
         low_power: false,
-        events: raised,
+        events: raise_event(effect.events, Event::Reset),
     }
 }
 
@@ -57,14 +70,10 @@ pub fn term_status(present: bool, effect: LinkEffect) -> LinkEffect
     if present {
         return effect;
     }
-    let events = effect.events;
-    let raised = raise_if(effect.reset_seen, events, Event::Suspend);
     LinkEffect {
-        resets: effect.resets,
-        suspended: effect.suspended,
         reset_seen: false,
-        low_power: effect.low_power,
-        events: raised,
+        events: raise_if(effect.reset_seen, effect.events, Event::Suspend),
+        ..effect
     }
 }
 
@@ -79,23 +88,14 @@ pub fn message(ops: &mut [u32], at: usize, revision: u8, word: u32) -> usize
     requires { at + records 4 ≤ length ops.old }
     ensures { Wrote ops.old at (message_ops revision word) result ops.new }
 {
-    let subtype = subtype_of(word);
-    if subtype == 4 {
-        return regs_link::tx_port_cap(ops, at);
+    match subtype_of(word) {
+        PORT_CAPABILITY => tx_port_cap(ops, at),
+        PORT_CONFIGURATION => tx_port_cfg_res(ops, at),
+        PORT_CONFIGURATION_RESPONSE => tx_cap_vld(ops, at),
+        U2_INACTIVITY_TIMEOUT => u2_timer(ops, at, word / 512 % 256),
+        SET_LINK_FUNCTION if revision < 3 => link_power_allow(ops, at, word / 1024 % 2 == 1),
+        _ => at,
     }
-    if subtype == 5 {
-        return regs_link::tx_port_cfg_res(ops, at);
-    }
-    if subtype == 6 {
-        return regs_link::tx_cap_vld(ops, at);
-    }
-    if subtype == 2 {
-        return regs_link::u2_timer(ops, at, word / 512 % 256);
-    }
-    if (subtype == 1) & (revision < 3) {
-        return regs_link::link_power_allow(ops, at, word / 1024 % 2 == 1);
-    }
-    at
 }
 
 // A warm reset: the link is held down for 16 cycles.
@@ -104,19 +104,14 @@ pub fn warm_status(ops: &mut [u32], at: usize, ep0: u32, warm: bool, effect: Lin
     ensures effect { result.effect ≡ warmed warm effect }
     ensures list { Wrote ops.old at (warmed_ops warm ep0) result.end ops.new }
 {
-    if warm {
-        let a = regs_device::bus_reset(ops, at, ep0);
-        let b = regs_link::go_disabled(ops, a, true);
-        let c = regs_link::delay_cycles(ops, b, 16);
-        let end = regs_link::go_disabled(ops, c, false);
-        let after = link_reset(effect);
-        return Acted {
-            effect: after,
-            end: end,
-        };
+    if !warm {
+        return Acted { effect, end: at };
     }
+    let a = bus_reset(ops, at, ep0);
+    let b = go_disabled(ops, a, true);
+    let c = delay_cycles(ops, b, 16);
     Acted {
-        effect: effect,
-        end: at,
+        effect: link_reset(effect),
+        end: go_disabled(ops, c, false),
     }
 }

@@ -1,6 +1,6 @@
 -- A reading by pieces of the state is the reading on the state.
 -- Assumes nothing.
-use Rattle.std.specs.Prelude.{ℕ, ◌+◌, ◌*◌, ◌%◌, ◌≤◌, Bool, cond, [], ◌++◌, ◌≡◌}
+use Rattle.std.specs.Prelude.{ℕ, ◌+◌, ◌*◌, ◌%◌, ◌≤◌, Bool, cond, [], ◌++◌, ◌≡◌, None}
 use Rattle.std.proofs.Math.Bool.{true, false}
 use Rattle.std.proofs.Math.Path.{refl, ap}
 use Rattle.std.proofs.Common.{◌∙◌, arith, le-leb, leb-true, eqb-true}
@@ -19,22 +19,24 @@ use Rattle.state_slots.specs.SlotsLaws.{own_place}
 use Rattle.state_slots.specs.Completing.{complete}
 use Rattle.state_slots.specs.CompletingLaws.{complete_stored}
 use Rattle.state_sound.specs.Sound.{soundb}
-use Rattle.state_sound.specs.FactLaws.{own_facts}
+use Rattle.state_sound.proofs.FactLaws.{own_facts}
 use Rattle.regs_endpoint.specs.Endpoint.{chain_ack_ops}
 use Rattle.transfer_window.specs.Window.{in_hand_count, window_of}
 use Rattle.transfer_step.specs.Step.{report_step}
 use Rattle.transfer_report.specs.Report.{report_state, report_ops, slots_counted}
 use Rattle.transfer_report.specs.ReportLaws.{stored_after, list_after_lem, list_in}
 use Rattle.control_report.specs.Ep0.{setup_received, status_follows}
+use Rattle.interrupt_asks.specs.Turns.{Heard}
+use Rattle.interrupt_transfer.specs.declared.TransferEffect.{TransferEffect}
 use Rattle.interrupt_transfer.specs.Transfers.{Turned, over, status_turn}
-use Rattle.interrupt_transfer.specs.Pieces.{sight_of, pieces_of, placed, after_pieces, status_slot, PiecesTurned, turned_to, report_pieces, status_pieces}
+use Rattle.interrupt_transfer.specs.Pieces.{sight_of, pieces_of, placed, after_pieces, status_slot, turned_to, report_pieces, status_pieces}
 use Rattle.interrupt_readings.specs.Matched.{Matched, other, link_flags, link_status, capability, term_status, message, warm_status, transfer_status, setup_bytes, ep0_length, ep0_sequence, chain_packets, matched_as}
 use Rattle.interrupt_followers.specs.Followers.{unturned, heard_transfer}
 use Rattle.interrupt_followers.specs.Pieces.{with_number, sequence_pieces, heard_pieces}
 use Rattle.interrupt_hear.specs.Hear.{slots_heard, heard_slot}
 
 -- what a reading by pieces has in common with one on the state
-pub record SameTurn (s : State) (i : ℕ) (h : PiecesTurned) (o : Turned) : Type 0 where
+pub record SameTurn (s : State) (i : ℕ) (h : Heard TransferEffect) (o : Turned) : Type 0 where
   pub state : after_pieces s i h.effect ≡ o.state
   pub awaited : h.awaited ≡ o.awaited
   pub ops : h.ops ≡ o.ops
@@ -47,7 +49,7 @@ placed_own s i = rw (set_own s.endpoints i fresh_slot)
 module _ (s : State) (e : ℕ) (packets last : ℕ) where
   abbrev ReportSame : ℕ → Bool → Type 0
   ReportSame w incoming =
-      SameTurn s (slot_number e incoming) (report_pieces (sight_of s w) (slot_number e incoming) (pieces_of s (slot_number e incoming)) e incoming packets last)
+      SameTurn s (slot_number e incoming) (report_pieces (sight_of s (slot_number e incoming) w) (pieces_of s (slot_number e incoming)) e incoming packets last)
       (over (report_state s e incoming packets last) (report_ops s e incoming packets last))
 
   out_placed : ReportSame (window_of (in_hand_count s 14)) false
@@ -70,7 +72,7 @@ module _ (s : State) (e : ℕ) (packets last : ℕ) where
 module _ (s : State) (w : ℕ) (t : TransferStatus) where
   abbrev StatusSame : Type 0
   StatusSame =
-      SameTurn s (status_slot t) (status_pieces (sight_of s w) s.awaited (status_slot t) (pieces_of s (status_slot t)) t) (status_turn s t)
+      SameTurn s (status_slot t) (status_pieces (sight_of s (status_slot t) w) (pieces_of s (status_slot t)) t) (status_turn s t)
 
   abbrev e : ℕ
   e = t.ep_id
@@ -98,7 +100,7 @@ module _ (s : State) (w : ℕ) (t : TransferStatus) where
       by_setup p false q = by_transfer p q t.uif_transfer refl
 
       by_status : (a : Bool) → t.udif_status ≡ a → StatusSame
-      by_status true p = rw p (record { state = complete_stored (with_stage s s.in_last false s.address) 1; awaited = refl; ops = refl })
+      by_status true p = rw p (record { state = complete_stored (with_stage s s.in_last None) 1; awaited = refl; ops = refl })
       by_status false p = by_setup p t.udif_setup refl
 
 -- ---- every reading
@@ -110,13 +112,13 @@ module _ (s : State) (v : Events) (sound : soundb s v ≡ true) where
   abbrev Same : Reading → Type 0
   Same r =
       let i = heard_slot s.awaited.endpoint r in
-      SameTurn s i (heard_pieces (sight_of s window) s.awaited i (pieces_of s i) (matched_as s.awaited.next r)) (heard_transfer s (matched_as s.awaited.next r))
+      SameTurn s i (heard_pieces (sight_of s i window) (pieces_of s i) (matched_as s.awaited.next r)) (heard_transfer s (matched_as s.awaited.next r))
 
   still : (i : ℕ) → SameTurn s i (turned_to (pieces_of s i) s.awaited []) (unturned s)
   still i = record { state = placed_own s i; awaited = refl; ops = refl }
 
   abbrev SameAt : ℕ → Matched → Type 0
-  SameAt i m = SameTurn s i (heard_pieces (sight_of s window) s.awaited i (pieces_of s i) m) (heard_transfer s m)
+  SameAt i m = SameTurn s i (heard_pieces (sight_of s i window) (pieces_of s i) m) (heard_transfer s m)
 
   either : (i : ℕ) (b : Bool) (m k : Matched) → SameAt i m → SameAt i k → SameAt i (cond b m k)
   either i true m k h g = h

@@ -1,4 +1,2 @@
 pub mod Matched
-pub mod MatchedLaws
 pub mod Heard
-pub mod HeardLaws

@@ -1,11 +1,10 @@
 -- A reading, told apart by what is awaited: the link's status is asked at three places, and a reading of another kind than
 -- the awaited one is `other`.
 -- Assumes nothing.
-use Rattle.std.specs.Prelude.{ℕ, Bool, not, cond, List, [], ◌∷◌, eqb}
+use Rattle.std.specs.Prelude.{ℕ, Bool, not, cond, List, [], ◌∷◌, eqb, Option, Some, None}
 use Rattle.state.specs.declared.LinkFlags.{LinkFlags}
 use Rattle.state.specs.declared.LinkStatus.{LinkStatus}
 use Rattle.state.specs.declared.TransferStatus.{TransferStatus}
-use Rattle.state.specs.declared.Setup.{Setup}
 use Rattle.state.specs.declared.Awaiting.{Awaiting}
 use Rattle.state.specs.declared.Awaiting.TheVariants as awaiting
 use Rattle.state.specs.declared.Reading.{Reading}
@@ -24,7 +23,7 @@ pub data Matched : Type 0 where
   message : ℕ → Matched
   warm_status : LinkStatus → Matched
   transfer_status : TransferStatus → Matched
-  setup_bytes : Setup → Matched
+  setup_bytes : List ℕ → Matched
   ep0_length : ℕ → Matched
   ep0_sequence : ℕ → Matched
   chain_packets : ℕ → Matched
@@ -43,7 +42,7 @@ matched n (reading.Ep0Sequence q) = cond (eqb n 10) (ep0_sequence q) other
 matched n (reading.ChainPackets p) = cond (eqb n 11) (chain_packets p) other
 matched n (reading.LastLength l) = cond (eqb n 12) (last_length l) other
 
-abbrev pub matched_as : Awaiting → Reading → Matched
+abbrev pub matched_as : Option Awaiting → Reading → Matched
 matched_as next r = matched (awaiting_number next) r
 
 -- the ten kinds of readings, and the kind that is awaited
@@ -59,24 +58,24 @@ kind_number (reading.Ep0Sequence q) = 8
 kind_number (reading.ChainPackets p) = 9
 kind_number (reading.LastLength n) = 10
 
-abbrev pub wanted_kind : Awaiting → ℕ
-wanted_kind awaiting.Nothing = 0
-wanted_kind awaiting.LinkFlags = 1
-wanted_kind awaiting.LinkStatus = 2
-wanted_kind awaiting.PortCapability = 3
-wanted_kind awaiting.TermPresStatus = 2
-wanted_kind awaiting.MessageWord = 4
-wanted_kind awaiting.WarmResetStatus = 2
-wanted_kind awaiting.TransferStatus = 5
-wanted_kind awaiting.SetupBytes = 6
-wanted_kind awaiting.Ep0Length = 7
-wanted_kind awaiting.Ep0Sequence = 8
-wanted_kind awaiting.ChainPackets = 9
-wanted_kind awaiting.LastLength = 10
+abbrev pub wanted_kind : Option Awaiting → ℕ
+wanted_kind None = 0
+wanted_kind (Some awaiting.LinkFlags) = 1
+wanted_kind (Some awaiting.LinkStatus) = 2
+wanted_kind (Some awaiting.PortCapability) = 3
+wanted_kind (Some awaiting.TermPresStatus) = 2
+wanted_kind (Some awaiting.MessageWord) = 4
+wanted_kind (Some awaiting.WarmResetStatus) = 2
+wanted_kind (Some awaiting.TransferStatus) = 5
+wanted_kind (Some awaiting.SetupBytes) = 6
+wanted_kind (Some awaiting.Ep0Length) = 7
+wanted_kind (Some awaiting.Ep0Sequence) = 8
+wanted_kind (Some awaiting.ChainPackets) = 9
+wanted_kind (Some awaiting.LastLength) = 10
 
-abbrev pub matchesb : Awaiting → Reading → Bool
+abbrev pub matchesb : Option Awaiting → Reading → Bool
 matchesb next r = eqb (wanted_kind next) (kind_number r)
 
 -- 24 of a reading that isn't the awaited one, 11 of one out of range
-abbrev pub reading_own : Awaiting → Reading → List Condition
+abbrev pub reading_own : Option Awaiting → Reading → List Condition
 reading_own next r = OutOfTurn if not (matchesb next r) ∷ OutOfRange if not (reading_in_range r) ∷ []

@@ -1,20 +1,22 @@
 // The slots that a reading is about: the one that it changes, and those that are counted for the window.
 #![tactic(auto)]
 
-ghost use Rattle.std.specs.Prelude.{◌≡◌, ◌≤◌, ◌<◌, length};
+ghost use Rattle.std.specs.Prelude.{◌≡◌, ◌≤◌, ◌<◌};
 ghost use Rattle.interrupt_transfer.specs.Pieces.{status_slot};
 ghost use Rattle.interrupt_hear.specs.Hear.{slots_heard, heard_slot};
 
-use state::{Awaited, Reading, TransferStatus};
+use state::{Awaited, Awaiting, EndpointAddress, Reading, TransferStatus};
+use state_slots::slot_place;
 
 // How many slots are counted for the window, which only the end of an OUT chain asks for.
 pub fn slots_heard(awaited: Awaited) -> usize
     ensures few { result ≤ 14 }
     ensures value { result ≡ slots_heard awaited.next }
 {
-    let next = awaited.next;
-    let place = state::readings::awaiting_number(next);
-    if place == 12 { 14 } else { 0 }
+    match awaited.next {
+        Some(Awaiting::LastLength) => 14,
+        _ => 0,
+    }
 }
 
 fn status_slot(status: TransferStatus) -> usize
@@ -34,8 +36,11 @@ pub fn slot_heard(awaited: Awaited, reading: Reading) -> usize
 {
     match reading {
         Reading::TransferStatus(status) => status_slot(status),
-        Reading::Ep0Length(length) => 0,
-        Reading::LastLength(last) => state_slots::slot_place(awaited.endpoint, false),
+        Reading::Ep0Length(_) => 0,
+        Reading::LastLength(_) => slot_place(EndpointAddress {
+            index: awaited.endpoint,
+            incoming: false,
+        }),
         _ => 1,
     }
 }

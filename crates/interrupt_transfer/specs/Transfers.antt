@@ -1,6 +1,6 @@
 -- What the transfer status leads to (reference: `transfer_irq` of device.rs): a reading that follows it, or the end.
 -- Assumes nothing.
-use Rattle.std.specs.Prelude.{ℕ, Bool, true, false, cond, List, [], eqb, leb}
+use Rattle.std.specs.Prelude.{ℕ, Bool, true, cond, List, [], eqb, leb, Some}
 use Rattle.ops.specs.Ops.{Op}
 use Rattle.state.specs.declared.Awaiting.{Awaiting}
 use Rattle.state.specs.declared.Awaiting.TheVariants as awaiting
@@ -28,10 +28,10 @@ asking s a ops = record { state = s; awaited = a; ops = ops }
 
 -- of OUT the packets of the chain are read, and then the last one's length
 abbrev pub chain_asked : Awaited → ℕ → Awaited
-chain_asked a e = record { next = awaiting.ChainPackets; flags = a.flags; link_state = a.link_state; endpoint = e; packets = a.packets }
+chain_asked a e = record { next = Some awaiting.ChainPackets; flags = a.flags; link_state = a.link_state; endpoint = e; packets = a.packets }
 
 abbrev pub last_asked : Awaited → ℕ → Awaited
-last_asked a p = record { next = awaiting.LastLength; flags = a.flags; link_state = a.link_state; endpoint = a.endpoint; packets = p }
+last_asked a p = record { next = Some awaiting.LastLength; flags = a.flags; link_state = a.link_state; endpoint = a.endpoint; packets = p }
 
 abbrev pub ep0_reading : Bool → Awaiting
 ep0_reading incoming = cond incoming awaiting.Ep0Sequence awaiting.Ep0Length
@@ -39,7 +39,7 @@ ep0_reading incoming = cond incoming awaiting.Ep0Sequence awaiting.Ep0Length
 -- a transfer of endpoint 0, of a data endpoint, or of one that isn't there
 abbrev pub endpoint_turn : State → ℕ → Bool → Turned
 endpoint_turn s e incoming =
-    cond (eqb e 0) (asking s (asked s.awaited (ep0_reading incoming)) [])
+    cond (eqb e 0) (asking s (asked s.awaited (Some (ep0_reading incoming))) [])
     (cond (leb e 7) (cond incoming (over (report_state s e true 0 0) (report_ops s e true 0 0)) (asking s (chain_asked s.awaited e) []))
     (over s []))
 
@@ -47,7 +47,7 @@ endpoint_turn s e incoming =
 -- other flags are written back as they were read
 unfoldable pub status_turn : State → TransferStatus → Turned
 status_turn s t =
-    cond t.udif_status (over (status_done s) (status_ops s.has_address s.address))
-    (cond t.udif_setup (asking s (asked s.awaited awaiting.SetupBytes) setup_ops)
+    cond t.udif_status (over (status_done s) (status_ops s.address))
+    (cond t.udif_setup (asking s (asked s.awaited (Some awaiting.SetupBytes)) setup_ops)
     (cond t.uif_transfer (endpoint_turn s t.ep_id t.ep_dir)
     (over s (status_others_ops t.uif_itp t.uif_rx_ping t.uif_fifo_txov t.uif_fifo_rxov))))

@@ -6,7 +6,7 @@ use Rattle.ops.specs.Ops.{Op, flat, records}
 use Rattle.ops.specs.OpsLaws.{flat_append}
 use Rattle.ops.specs.Stores.{Stored}
 use Rattle.ops.specs.StoresLaws.{◌then◌, nothing, stored_length, stored_same}
-use Rattle.ops.specs.Wrote.{Wrote, row_record, row_records}
+use Rattle.ops.specs.Wrote.{Wrote, Row, row_record, row_records}
 
 stored : {l l' : List ℕ} {i k : ℕ} {os : List Op} → Wrote l i os k l' → Stored l i (flat os) k l'
 stored w = record { end = w.end; list = w.list }
@@ -29,16 +29,17 @@ wrote_length w = stored_length (stored w)
 pub same : {l l' : List ℕ} {i k : ℕ} {a b : List Op} → a ≡ b → Wrote l i a k l' → Wrote l i b k l'
 same {l} {l'} {i} {k} e w = subst (λ (os : List Op). Wrote l i os k l') e w
 
-rows_append : (a b : List (List ℕ)) → row_records (a ++ b) ≡ row_records a ++ row_records b
+rows_append : (a b : List Row) → row_records (a ++ b) ≡ row_records a ++ row_records b
 rows_append [] b = refl
 rows_append (row ∷ rows) b =
     ap (λ (l : List ℕ). row_record row ++ l) (rows_append rows b) ∙ sym (append_assoc (row_record row) (row_records rows) (row_records b))
 
 -- the records of one row more
-pub row_more : (rows : List (List ℕ)) (k : ℕ) → k < length rows → row_records (take k rows) ++ row_record (get_or rows k []) ≡ row_records (take (k + 1) rows)
-row_more rows k h = rw (add-one k, take-suc rows k [] h) (sym (rows_append (take k rows) (get_or rows k [] ∷ [])))
+pub row_more : (rows : List Row) (k : ℕ) (d : Row) → k < length rows
+    → row_records (take k rows) ++ row_record (get_or rows k d) ≡ row_records (take (k + 1) rows)
+row_more rows k d h = rw (add-one k, take-suc rows k d h) (sym (rows_append (take k rows) (get_or rows k d ∷ [])))
 
 -- a record for each row
-pub rows_length : (rows : List (List ℕ)) → length (row_records rows) ≡ records (length rows)
+pub rows_length : (rows : List Row) → length (row_records rows) ≡ records (length rows)
 rows_length [] = refl
 rows_length (row ∷ rows) = omega (arith, rows_length rows)

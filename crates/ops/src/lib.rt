@@ -8,7 +8,9 @@ ghost use Rattle.ops.specs.Ops.{records};
 ghost use Rattle.ops.specs.Stores.{Stored};
 ghost use Rattle.ops.specs.Wrote.{row_record, row_records};
 
-pub mod numbers;
+mod numbers;
+
+pub use numbers::{Field, Kind, Register, Value};
 
 // How many numbers a record has.
 pub const WIDTH: usize = 5;
@@ -17,18 +19,18 @@ pub const WIDTH: usize = 5;
 pub const LIST_NUMBERS: usize = 128 * WIDTH;
 
 // What a record says: kind, register, index, field, value.
-pub type Row = [u32; 5];
+pub type Row = (Kind, Register, u32, Field, u32);
 
 // One record, stored at `at`: the end position.
 pub fn put(ops: &mut [u32], at: usize, row: &Row) -> usize
     requires { at + records 1 ≤ length ops.old }
     ensures { Stored ops.old at (row_record row.now) result ops.new }
 {
-    ops[at] = row[0];
-    ops[at + 1] = row[1];
-    ops[at + 2] = row[2];
-    ops[at + 3] = row[3];
-    ops[at + 4] = row[4];
+    ops[at] = row.0 as u32;
+    ops[at + 1] = row.1 as u32;
+    ops[at + 2] = row.2;
+    ops[at + 3] = row.3 as u32;
+    ops[at + 4] = row.4;
     at + WIDTH
 }
 
@@ -37,11 +39,9 @@ pub fn append(ops: &mut [u32], at: usize, rows: &[Row]) -> usize
     requires { at + records (length rows.now) ≤ length ops.old }
     ensures { Stored ops.old at (row_records rows.now) result ops.new }
 {
-    let mut a = at;
-    let mut k: usize = 0;
-    while k < rows.len() {
-        a = put(ops, a, &rows[k]);
-        k = k + 1;
+    let mut end = at;
+    for row in rows {
+        end = put(ops, end, row);
     }
-    a
+    end
 }

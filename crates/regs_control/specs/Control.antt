@@ -2,6 +2,7 @@
 -- of device.rs).
 -- Assumes nothing.
 use Rattle.std.specs.Prelude.{ℕ, Bool, List, [], ◌∷◌}
+use Rattle.ops.specs.declared.numbers.Field.{Field}
 use Rattle.ops.specs.Numbers as n
 use Rattle.ops.specs.Ops.{Op, write, modify, ◌≔◌}
 use Rattle.base.specs.Bits.{bit}
@@ -39,7 +40,7 @@ abbrev pub ep0_rx_answer_ops : ℕ → List Op
 ep0_rx_answer_ops answer = write n.uep0_rx_ctrl 0 (n.ep0_rx_res ≔ answer) [] ∷ []
 
 -- acknowledges one flag of `status`: SETUP received, or the status stage ended
-abbrev pub status_ack_ops : ℕ → List Op
+abbrev pub status_ack_ops : Field → List Op
 status_ack_ops flag = write n.status 0 (flag ≔ 1) [] ∷ []
 
 -- acknowledges those of the four other flags that were read as set

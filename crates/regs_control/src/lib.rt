@@ -2,19 +2,23 @@
 #![tactic(auto)]
 
 ghost use Rattle.std.specs.Prelude.{◌+◌, ◌≤◌, length};
+ghost use Rattle.ops.specs.Numbers.{value_number};
 ghost use Rattle.ops.specs.Ops.{records};
 ghost use Rattle.ops.specs.Wrote.{Wrote};
 ghost use Rattle.regs_control.specs.Control.{ep0_rx_ready_ops, ep0_tx_ready_ops, ep0_stall_ops, ep0_tx_clear_ops, ep0_rx_clear_ops, ep0_tx_answer_ops, ep0_rx_answer_ops, status_ack_ops, status_others_ops, address_ops};
 
-use ops::numbers::*;
+use ops::Field::{self, *};
+use ops::Kind::*;
+use ops::Register::*;
+use ops::Value;
 
 pub fn ep0_rx_ready(ops: &mut [u32], at: usize) -> usize
     requires { at + records 2 ≤ length ops.old }
     ensures { Wrote ops.old at ep0_rx_ready_ops result ops.new }
 {
     let rows = [
-        [WRITE, UEP0_RX_CTRL, 0, EP0_RX_RES, ACK],
-        [AND, UEP0_RX_CTRL, 0, EP0_RX_ERDY, 1],
+        (Write, Uep0RxCtrl, 0, Ep0RxRes, Value::Ack as u32),
+        (And, Uep0RxCtrl, 0, Ep0RxErdy, 1),
     ];
     ops::append(ops, at, &rows)
 }
@@ -24,10 +28,10 @@ pub fn ep0_tx_ready(ops: &mut [u32], at: usize, seq: u32, len: u32) -> usize
     ensures { Wrote ops.old at (ep0_tx_ready_ops seq len) result ops.new }
 {
     let rows = [
-        [WRITE, UEP0_TX_CTRL, 0, EP0_TX_RES, DPH],
-        [AND, UEP0_TX_CTRL, 0, EP0_TX_SEQ, seq],
-        [AND, UEP0_TX_CTRL, 0, EP0_TX_LEN, len],
-        [MODIFY, UEP0_TX_CTRL, 0, EP0_TX_ERDY, 1],
+        (Write, Uep0TxCtrl, 0, Ep0TxRes, Value::Dph as u32),
+        (And, Uep0TxCtrl, 0, Ep0TxSeq, seq),
+        (And, Uep0TxCtrl, 0, Ep0TxLen, len),
+        (Modify, Uep0TxCtrl, 0, Ep0TxErdy, 1),
     ];
     ops::append(ops, at, &rows)
 }
@@ -37,9 +41,9 @@ pub fn ep0_stall(ops: &mut [u32], at: usize) -> usize
     ensures { Wrote ops.old at ep0_stall_ops result ops.new }
 {
     let rows = [
-        [WRITE, UEP0_TX_CTRL, 0, EP0_TX_RES, STALL],
-        [WRITE, UEP0_RX_CTRL, 0, EP0_RX_RES, STALL],
-        [AND, UEP0_RX_CTRL, 0, EP0_RX_ERDY, 1],
+        (Write, Uep0TxCtrl, 0, Ep0TxRes, Value::Stall as u32),
+        (Write, Uep0RxCtrl, 0, Ep0RxRes, Value::Stall as u32),
+        (And, Uep0RxCtrl, 0, Ep0RxErdy, 1),
     ];
     ops::append(ops, at, &rows)
 }
@@ -48,43 +52,38 @@ pub fn ep0_tx_clear(ops: &mut [u32], at: usize) -> usize
     requires { at + records 1 ≤ length ops.old }
     ensures { Wrote ops.old at ep0_tx_clear_ops result ops.new }
 {
-    let rows = [[WRITE, UEP0_TX_CTRL, 0, ALL, 0]];
-    ops::append(ops, at, &rows)
+    ops::append(ops, at, &[(Write, Uep0TxCtrl, 0, All, 0)])
 }
 
 pub fn ep0_rx_clear(ops: &mut [u32], at: usize) -> usize
     requires { at + records 1 ≤ length ops.old }
     ensures { Wrote ops.old at ep0_rx_clear_ops result ops.new }
 {
-    let rows = [[WRITE, UEP0_RX_CTRL, 0, ALL, 0]];
-    ops::append(ops, at, &rows)
+    ops::append(ops, at, &[(Write, Uep0RxCtrl, 0, All, 0)])
 }
 
 // What EP0 IN answers: DPH or NRDY.
-pub fn ep0_tx_answer(ops: &mut [u32], at: usize, answer: u32) -> usize
+pub fn ep0_tx_answer(ops: &mut [u32], at: usize, answer: Value) -> usize
     requires { at + records 1 ≤ length ops.old }
-    ensures { Wrote ops.old at (ep0_tx_answer_ops answer) result ops.new }
+    ensures { Wrote ops.old at (ep0_tx_answer_ops (value_number answer)) result ops.new }
 {
-    let rows = [[WRITE, UEP0_TX_CTRL, 0, EP0_TX_RES, answer]];
-    ops::append(ops, at, &rows)
+    ops::append(ops, at, &[(Write, Uep0TxCtrl, 0, Ep0TxRes, answer as u32)])
 }
 
 // What EP0 OUT answers: NRDY.
-pub fn ep0_rx_answer(ops: &mut [u32], at: usize, answer: u32) -> usize
+pub fn ep0_rx_answer(ops: &mut [u32], at: usize, answer: Value) -> usize
     requires { at + records 1 ≤ length ops.old }
-    ensures { Wrote ops.old at (ep0_rx_answer_ops answer) result ops.new }
+    ensures { Wrote ops.old at (ep0_rx_answer_ops (value_number answer)) result ops.new }
 {
-    let rows = [[WRITE, UEP0_RX_CTRL, 0, EP0_RX_RES, answer]];
-    ops::append(ops, at, &rows)
+    ops::append(ops, at, &[(Write, Uep0RxCtrl, 0, Ep0RxRes, answer as u32)])
 }
 
-// Acknowledges UDIF_SETUP or UDIF_STATUS.
-pub fn status_ack(ops: &mut [u32], at: usize, flag: u32) -> usize
+// Acknowledges `UdifSetup` or `UdifStatus`.
+pub fn status_ack(ops: &mut [u32], at: usize, flag: Field) -> usize
     requires { at + records 1 ≤ length ops.old }
     ensures { Wrote ops.old at (status_ack_ops flag) result ops.new }
 {
-    let rows = [[WRITE, STATUS, 0, flag, 1]];
-    ops::append(ops, at, &rows)
+    ops::append(ops, at, &[(Write, Status, 0, flag, 1)])
 }
 
 // Acknowledges those of the other flags that were read as set.
@@ -100,10 +99,10 @@ pub fn status_others(
     ensures { Wrote ops.old at (status_others_ops itp rx_ping txov rxov) result ops.new }
 {
     let rows = [
-        [WRITE, STATUS, 0, UIF_ITP, itp as u32],
-        [AND, STATUS, 0, UIF_RX_PING, rx_ping as u32],
-        [AND, STATUS, 0, UIF_FIFO_TXOV, txov as u32],
-        [AND, STATUS, 0, UIF_FIFO_RXOV, rxov as u32],
+        (Write, Status, 0, UifItp, itp as u32),
+        (And, Status, 0, UifRxPing, rx_ping as u32),
+        (And, Status, 0, UifFifoTxov, txov as u32),
+        (And, Status, 0, UifFifoRxov, rxov as u32),
     ];
     ops::append(ops, at, &rows)
 }
@@ -112,6 +111,5 @@ pub fn set_address(ops: &mut [u32], at: usize, address: u32) -> usize
     requires { at + records 1 ≤ length ops.old }
     ensures { Wrote ops.old at (address_ops address) result ops.new }
 {
-    let rows = [[MODIFY, USBSS_CTRL, 0, DEV_ADDR, address]];
-    ops::append(ops, at, &rows)
+    ops::append(ops, at, &[(Modify, UsbssCtrl, 0, DevAddr, address)])
 }

@@ -7,7 +7,9 @@ ghost use Rattle.ops.specs.Sequence.{up_to};
 ghost use Rattle.ops.specs.Wrote.{Wrote};
 ghost use Rattle.regs_device.specs.Device.{shutdown_ops, protocol_ops, clear_both, ep0_memory_ops, protocol_reset_ops, bus_reset_ops};
 
-use ops::numbers::*;
+use ops::Field::*;
+use ops::Kind::*;
+use ops::Register::*;
 use regs_control::{ep0_rx_ready, ep0_tx_clear, set_address};
 use regs_endpoint::clear;
 use regs_link::link_power_allow;
@@ -18,14 +20,14 @@ pub fn shutdown(ops: &mut [u32], at: usize) -> usize
     ensures { Wrote ops.old at shutdown_ops result ops.new }
 {
     let rows = [
-        [WRITE, USBSS_CTRL, 0, FORCE_RST, 1],
-        [MODIFY, LINK_CFG, 0, LINK_PHY_RESET, 1],
-        [AND, LINK_CFG, 0, LINK_RESET, 1],
-        [MODIFY, LINK_CTRL, 0, LINK_GO_DISABLED, 1],
-        [WAIT, DELAY, 0, CYCLES, 1000],
-        [MODIFY, USBSS_CTRL, 0, FORCE_RST, 0],
-        [MODIFY, LINK_CFG, 0, LINK_PHY_RESET, 0],
-        [AND, LINK_CFG, 0, LINK_RESET, 0],
+        (Write, UsbssCtrl, 0, ForceRst, 1),
+        (Modify, LinkCfg, 0, LinkPhyReset, 1),
+        (And, LinkCfg, 0, LinkReset, 1),
+        (Modify, LinkCtrl, 0, LinkGoDisabled, 1),
+        (Wait, Delay, 0, Cycles, 1000),
+        (Modify, UsbssCtrl, 0, ForceRst, 0),
+        (Modify, LinkCfg, 0, LinkPhyReset, 0),
+        (And, LinkCfg, 0, LinkReset, 0),
     ];
     ops::append(ops, at, &rows)
 }
@@ -35,39 +37,37 @@ fn reset_protocol_layer(ops: &mut [u32], at: usize) -> usize
     ensures { Wrote ops.old at protocol_ops result ops.new }
 {
     let rows = [
-        [MODIFY, USBSS_CTRL, 0, FORCE_RST, 1],
-        [WRITE, STATUS, 0, UIF_TRANSFER, 1],
-        [AND, STATUS, 0, UDIF_SETUP, 1],
-        [AND, STATUS, 0, UDIF_STATUS, 1],
-        [AND, STATUS, 0, UIF_RX_PING, 1],
-        [AND, STATUS, 0, UIF_ITP, 1],
-        [AND, STATUS, 0, UIF_FIFO_TXOV, 1],
-        [AND, STATUS, 0, UIF_FIFO_RXOV, 1],
-        [WRITE, USBSS_CTRL, 0, UIE_TRANSFER, 1],
-        [AND, USBSS_CTRL, 0, UDIE_SETUP, 1],
-        [AND, USBSS_CTRL, 0, UDIE_STATUS, 1],
-        [AND, USBSS_CTRL, 0, DMA_EN, 1],
-        [AND, USBSS_CTRL, 0, SETUP_FLOW, 1],
-        [MODIFY, USBSS_CTRL, 0, USB_CLR_ALL, 1],
-        [MODIFY, USBSS_CTRL, 0, USB_CLR_ALL, 0],
-        [WRITE, UEP_TX_EN, 0, ALL, 0],
-        [WRITE, UEP_RX_EN, 0, ALL, 0],
+        (Modify, UsbssCtrl, 0, ForceRst, 1),
+        (Write, Status, 0, UifTransfer, 1),
+        (And, Status, 0, UdifSetup, 1),
+        (And, Status, 0, UdifStatus, 1),
+        (And, Status, 0, UifRxPing, 1),
+        (And, Status, 0, UifItp, 1),
+        (And, Status, 0, UifFifoTxov, 1),
+        (And, Status, 0, UifFifoRxov, 1),
+        (Write, UsbssCtrl, 0, UieTransfer, 1),
+        (And, UsbssCtrl, 0, UdieSetup, 1),
+        (And, UsbssCtrl, 0, UdieStatus, 1),
+        (And, UsbssCtrl, 0, DmaEn, 1),
+        (And, UsbssCtrl, 0, SetupFlow, 1),
+        (Modify, UsbssCtrl, 0, UsbClrAll, 1),
+        (Modify, UsbssCtrl, 0, UsbClrAll, 0),
+        (Write, UepTxEn, 0, All, 0),
+        (Write, UepRxEn, 0, All, 0),
     ];
     ops::append(ops, at, &rows)
 }
 
 // Both directions of the endpoints 1 to 7, IN first.
+#[tactic(auto, using(ops::specs::WroteLaws::wrote_length, ops::specs::SequenceLaws::up_to_start, crate::specs::DeviceLaws::clear_both_length))]
 fn clear_all(ops: &mut [u32], at: usize) -> usize
     requires { at + records 56 ≤ length ops.old }
     ensures { Wrote ops.old at (up_to clear_both 7) result ops.new }
 {
     let mut a = at;
-    let mut k: u32 = 0;
-    while k < 7 {
-        let index = k + 1;
+    for index in 1..=7 {
         let b = clear(ops, a, index, true);
         a = clear(ops, b, index, false);
-        k = index;
     }
     a
 }
@@ -77,15 +77,16 @@ fn set_ep0_memory(ops: &mut [u32], at: usize, ep0: u32) -> usize
     ensures { Wrote ops.old at (ep0_memory_ops ep0) result ops.new }
 {
     let rows = [
-        [WRITE, UEP0_TX_DMA, 0, ALL, ep0],
-        [WRITE, UEP0_RX_DMA, 0, ALL, ep0],
-        [WRITE, UEP0_TX_DMA_OFS, 0, ALL, 0],
-        [WRITE, UEP0_RX_DMA_OFS, 0, ALL, 0],
+        (Write, Uep0TxDma, 0, All, ep0),
+        (Write, Uep0RxDma, 0, All, ep0),
+        (Write, Uep0TxDmaOfs, 0, All, 0),
+        (Write, Uep0RxDmaOfs, 0, All, 0),
     ];
     ops::append(ops, at, &rows)
 }
 
 // Everything above the link starts over: flags, endpoints, address. EP0 has its memory at `ep0` and waits for a SETUP.
+#[tactic(auto, using(crate::specs::DeviceLaws::clear_both_length))]
 pub fn protocol_reset(ops: &mut [u32], at: usize, ep0: u32) -> usize
     requires { at + records 81 ≤ length ops.old }
     ensures { Wrote ops.old at (protocol_reset_ops ep0) result ops.new }
@@ -99,6 +100,7 @@ pub fn protocol_reset(ops: &mut [u32], at: usize, ep0: u32) -> usize
 }
 
 // The registers of a bus reset: the host's requests to enter U1 and U2 are refused behind it.
+#[tactic(auto, using(ops::specs::WroteLaws::wrote_length, crate::specs::DeviceLaws::protocol_reset_length))]
 pub fn bus_reset(ops: &mut [u32], at: usize, ep0: u32) -> usize
     requires { at + records 83 ≤ length ops.old }
     ensures { Wrote ops.old at (bus_reset_ops ep0) result ops.new }

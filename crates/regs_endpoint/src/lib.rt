@@ -6,17 +6,19 @@ ghost use Rattle.ops.specs.Ops.{records};
 ghost use Rattle.ops.specs.Wrote.{Wrote};
 ghost use Rattle.regs_endpoint.specs.Endpoint.{bank_of, clear_ops, cfg_ops, configure_ops, abort_ops, abort_busy_ops, window_ops, halt_ops, enable_ops, chain_in_ops, chain_out_ops, chain_ack_ops};
 
-use ops::numbers::*;
+use ops::Field::{self, *};
+use ops::Kind::*;
+use ops::Register::{self, *};
 
 // The registers of an endpoint's direction, and the field of its enable bit.
 #[derive(Clone, Copy)]
 pub struct Bank {
-    pub cfg: u32,
-    pub cr: u32,
-    pub st: u32,
-    pub chain_st: u32,
-    pub en: u32,
-    pub ep_en: u32,
+    pub cfg: Register,
+    pub cr: Register,
+    pub st: Register,
+    pub chain_st: Register,
+    pub en: Register,
+    pub ep_en: Field,
 }
 
 fn bank_of(incoming: bool) -> Bank
@@ -24,21 +26,21 @@ fn bank_of(incoming: bool) -> Bank
 {
     if incoming {
         Bank {
-            cfg: TX_CFG,
-            cr: TX_CR,
-            st: TX_ST,
-            chain_st: TX_CHAIN_ST,
-            en: UEP_TX_EN,
-            ep_en: EP_TX_EN,
+            cfg: TxCfg,
+            cr: TxCr,
+            st: TxSt,
+            chain_st: TxChainSt,
+            en: UepTxEn,
+            ep_en: EpTxEn,
         }
     } else {
         Bank {
-            cfg: RX_CFG,
-            cr: RX_CR,
-            st: RX_ST,
-            chain_st: RX_CHAIN_ST,
-            en: UEP_RX_EN,
-            ep_en: EP_RX_EN,
+            cfg: RxCfg,
+            cr: RxCr,
+            st: RxSt,
+            chain_st: RxChainSt,
+            en: UepRxEn,
+            ep_en: EpRxEn,
         }
     }
 }
@@ -51,10 +53,10 @@ pub fn clear(ops: &mut [u32], at: usize, index: u32, incoming: bool) -> usize
 {
     let ep = bank_of(incoming);
     let rows = [
-        [WRITE, ep.cr, index, CLR, 1],
-        [AND, ep.cr, index, CHAIN_CLR, 1],
-        [WRITE, ep.st, index, INT_FLAG, 1],
-        [WRITE, ep.chain_st, index, CHAIN_IF, 1],
+        (Write, ep.cr, index, Clr, 1),
+        (And, ep.cr, index, ChainClr, 1),
+        (Write, ep.st, index, IntFlag, 1),
+        (Write, ep.chain_st, index, ChainIf, 1),
     ];
     ops::append(ops, at, &rows)
 }
@@ -66,10 +68,10 @@ fn write_cfg(ops: &mut [u32], at: usize, index: u32, incoming: bool, iso: bool) 
 {
     let ep = bank_of(incoming);
     let rows = [
-        [WRITE, ep.cfg, index, CHAIN_AUTO, 1],
-        [AND, ep.cfg, index, ERDY_AUTO, 1],
-        [AND, ep.cfg, index, SEQ_AUTO, 1],
-        [AND, ep.cfg, index, ISO_MODE, iso as u32],
+        (Write, ep.cfg, index, ChainAuto, 1),
+        (And, ep.cfg, index, ErdyAuto, 1),
+        (And, ep.cfg, index, SeqAuto, 1),
+        (And, ep.cfg, index, IsoMode, iso as u32),
     ];
     ops::append(ops, at, &rows)
 }
@@ -90,9 +92,9 @@ pub fn abort(ops: &mut [u32], at: usize, index: u32, incoming: bool) -> usize
 {
     let ep = bank_of(incoming);
     let rows = [
-        [MODIFY, ep.cr, index, CHAIN_CLR, 1],
-        [WRITE, ep.chain_st, index, CHAIN_IF, 1],
-        [WRITE, ep.st, index, ERDY_REQ, 1], // a host that waits asks again
+        (Modify, ep.cr, index, ChainClr, 1),
+        (Write, ep.chain_st, index, ChainIf, 1),
+        (Write, ep.st, index, ErdyReq, 1), // a host that waits asks again
     ];
     ops::append(ops, at, &rows)
 }
@@ -103,9 +105,10 @@ pub fn abort_busy(ops: &mut [u32], at: usize, index: u32, incoming: bool, busy: 
     ensures { Wrote ops.old at (abort_busy_ops index incoming busy) result ops.new }
 {
     if busy {
-        return abort(ops, at, index, incoming);
+        abort(ops, at, index, incoming)
+    } else {
+        at
     }
-    at
 }
 
 // The window of an OUT endpoint: one more than the packets that may be sent ahead of their ACK.
@@ -113,8 +116,7 @@ pub fn set_out_window(ops: &mut [u32], at: usize, index: u32, nump: u32) -> usiz
     requires { at + records 1 ≤ length ops.old }
     ensures { Wrote ops.old at (window_ops index nump) result ops.new }
 {
-    let rows = [[MODIFY_IF_DIFFERS, RX_CR, index, ERDY_NUMP, nump]];
-    ops::append(ops, at, &rows)
+    ops::append(ops, at, &[(ModifyIfDiffers, RxCr, index, ErdyNump, nump)])
 }
 
 // Has the endpoint answer STALL.
@@ -124,8 +126,8 @@ pub fn halt(ops: &mut [u32], at: usize, index: u32, incoming: bool) -> usize
 {
     let ep = bank_of(incoming);
     let rows = [
-        [MODIFY, ep.cr, index, HALT, 1],
-        [WRITE, ep.st, index, ERDY_REQ, 1], // has a waiting host ask again, and find the STALL
+        (Modify, ep.cr, index, Halt, 1),
+        (Write, ep.st, index, ErdyReq, 1), // has a waiting host ask again, and find the STALL
     ];
     ops::append(ops, at, &rows)
 }
@@ -136,8 +138,7 @@ pub fn set_enabled(ops: &mut [u32], at: usize, index: u32, incoming: bool, enabl
     ensures { Wrote ops.old at (enable_ops index incoming enabled) result ops.new }
 {
     let ep = bank_of(incoming);
-    let rows = [[MODIFY, ep.en, index, ep.ep_en, enabled as u32]];
-    ops::append(ops, at, &rows)
+    ops::append(ops, at, &[(Modify, ep.en, index, ep.ep_en, enabled as u32)])
 }
 
 // Hands an IN chain over: `packets` packets from `dma` on, the last of `last` bytes.
@@ -154,11 +155,11 @@ pub fn chain_in(
     ensures { Wrote ops.old at (chain_in_ops index dma mps last packets) result ops.new }
 {
     let rows = [
-        [WRITE, TX_DMA, index, ALL, dma],
-        [WRITE, TX_DMA_OFS, index, ALL, mps],
-        [WRITE, TX_CHAIN_LEN, index, LEN, last],
-        [WRITE, TX_CHAIN_EXP_NUMP, index, ALL, packets],
-        [WRITE, TX_CHAIN_ST, index, CHAIN_IF, 1],
+        (Write, TxDma, index, All, dma),
+        (Write, TxDmaOfs, index, All, mps),
+        (Write, TxChainLen, index, Len, last),
+        (Write, TxChainExpNump, index, All, packets),
+        (Write, TxChainSt, index, ChainIf, 1),
     ];
     ops::append(ops, at, &rows)
 }
@@ -169,10 +170,10 @@ pub fn chain_out(ops: &mut [u32], at: usize, index: u32, dma: u32, mps: u32, pac
     ensures { Wrote ops.old at (chain_out_ops index dma mps packets) result ops.new }
 {
     let rows = [
-        [WRITE, RX_DMA, index, ALL, dma],
-        [WRITE, RX_DMA_OFS, index, ALL, mps],
-        [WRITE, RX_CHAIN_MAX_NUMP, index, ALL, packets],
-        [WRITE, RX_CHAIN_ST, index, CHAIN_IF, 1],
+        (Write, RxDma, index, All, dma),
+        (Write, RxDmaOfs, index, All, mps),
+        (Write, RxChainMaxNump, index, All, packets),
+        (Write, RxChainSt, index, ChainIf, 1),
     ];
     ops::append(ops, at, &rows)
 }
@@ -183,6 +184,5 @@ pub fn chain_ack(ops: &mut [u32], at: usize, index: u32, incoming: bool) -> usiz
     ensures { Wrote ops.old at (chain_ack_ops index incoming) result ops.new }
 {
     let ep = bank_of(incoming);
-    let rows = [[WRITE, ep.chain_st, index, CHAIN_IF, 1]];
-    ops::append(ops, at, &rows)
+    ops::append(ops, at, &[(Write, ep.chain_st, index, ChainIf, 1)])
 }

@@ -6,14 +6,16 @@ ghost use Rattle.ops.specs.Ops.{records};
 ghost use Rattle.ops.specs.Wrote.{Wrote};
 ghost use Rattle.regs_init.specs.Init.{phy_unnamed_ops, phy_tuning_ops, link_up_ops, init_ops};
 
-use ops::numbers::*;
+use ops::Field::*;
+use ops::Kind::*;
+use ops::Register::*;
+use ops::Value;
 
 fn phy_unnamed(ops: &mut [u32], at: usize) -> usize
     requires { at + records 1 ≤ length ops.old }
     ensures { Wrote ops.old at phy_unnamed_ops result ops.new }
 {
-    let rows = [[WRITE, UNNAMED_5003C018, 0, ALL, 0xB005_4000]];
-    ops::append(ops, at, &rows)
+    ops::append(ops, at, &[(Write, Unnamed5003C018, 0, All, 0xB005_4000)])
 }
 
 // Has to follow the release of `link_phy_reset`. After a cold boot earlier writes are lost, and Recovery is entered
@@ -35,35 +37,29 @@ fn link_up(ops: &mut [u32], at: usize, revision: u32) -> usize
     ensures { Wrote ops.old at (link_up_ops revision) result ops.new }
 {
     let rows = [
-        [WRITE, LINK_CFG, 0, LINK_RX_EQ_EN, 1],
-        [AND, LINK_CFG, 0, LINK_TX_DEEMPH, DB3_5],
-        [AND, LINK_CFG, 0, LINK_PHY_RESET, 1],
-        [WRITE, LINK_CTRL, 0, LINK_PD_MODE, P2],
-        [AND, LINK_CTRL, 0, LINK_GO_DISABLED, 1],
-        [WRITE, LINK_CFG, 0, LINK_RX_EQ_EN, 1],
-        [AND, LINK_CFG, 0, LINK_TX_DEEMPH, DB3_5],
-        [AND, LINK_CFG, 0, LINK_LTSSM_MODE, 1],
-        [AND, LINK_CFG, 0, LINK_TOUT_MODE, 1],
-        [MODIFY, LINK_LPM_CR, 0, LPM_EN, 1],
-        [MODIFY, LINK_CFG, 0, LINK_RX_TERM_EN, 1],
-        [WRITE, LINK_INT_CTRL, 0, LINK_IE_TX_LMP, 1],
-        [AND, LINK_INT_CTRL, 0, LINK_IE_RX_LMP, 1],
-        [AND, LINK_INT_CTRL, 0, LINK_IE_RX_LMP_TOUT, 1],
-        [AND, LINK_INT_CTRL, 0, LINK_IE_STATE_CHG, 1],
-        [AND, LINK_INT_CTRL, 0, LINK_IE_WARM_RST, 1],
-        [AND, LINK_INT_CTRL, 0, LINK_IE_TERM_PRES, 1],
-        [
-            AND,
-            LINK_INT_CTRL,
-            0,
-            LINK_IE_RX_SET_FC,
-            (3 <= revision) as u32,
-        ],
-        [WRITE, LINK_CTRL, 0, LINK_PD_MODE, P2],
-        [WRITE, LINK_U1_WKUP_TMR, 0, U1_WKUP_TMR, 120],
-        [WRITE, LINK_U1_WKUP_FILTER, 0, U1_WKUP_FILTER, 50],
-        [WRITE, LINK_U2_WKUP_FILTER, 0, U2_WKUP_FILTER, 0],
-        [WRITE, LINK_U3_WKUP_FILTER, 0, U3_WKUP_FILTER, 0],
+        (Write, LinkCfg, 0, LinkRxEqEn, 1),
+        (And, LinkCfg, 0, LinkTxDeemph, Value::Db3_5 as u32),
+        (And, LinkCfg, 0, LinkPhyReset, 1),
+        (Write, LinkCtrl, 0, LinkPdMode, Value::P2 as u32),
+        (And, LinkCtrl, 0, LinkGoDisabled, 1),
+        (Write, LinkCfg, 0, LinkRxEqEn, 1),
+        (And, LinkCfg, 0, LinkTxDeemph, Value::Db3_5 as u32),
+        (And, LinkCfg, 0, LinkLtssmMode, 1),
+        (And, LinkCfg, 0, LinkToutMode, 1),
+        (Modify, LinkLpmCr, 0, LpmEn, 1),
+        (Modify, LinkCfg, 0, LinkRxTermEn, 1),
+        (Write, LinkIntCtrl, 0, LinkIeTxLmp, 1),
+        (And, LinkIntCtrl, 0, LinkIeRxLmp, 1),
+        (And, LinkIntCtrl, 0, LinkIeRxLmpTout, 1),
+        (And, LinkIntCtrl, 0, LinkIeStateChg, 1),
+        (And, LinkIntCtrl, 0, LinkIeWarmRst, 1),
+        (And, LinkIntCtrl, 0, LinkIeTermPres, 1),
+        (And, LinkIntCtrl, 0, LinkIeRxSetFc, (3 <= revision) as u32),
+        (Write, LinkCtrl, 0, LinkPdMode, Value::P2 as u32),
+        (Write, LinkU1WkupTmr, 0, U1WkupTmr, 120),
+        (Write, LinkU1WkupFilter, 0, U1WkupFilter, 50),
+        (Write, LinkU2WkupFilter, 0, U2WkupFilter, 0),
+        (Write, LinkU3WkupFilter, 0, U3WkupFilter, 0),
     ];
     ops::append(ops, at, &rows)
 }

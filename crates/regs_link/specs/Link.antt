@@ -1,6 +1,7 @@
 -- What is done to the registers of the link layer, and a write to the PHY (reference: regs.rs, and `link_irq` of device.rs).
 -- Assumes nothing.
 use Rattle.std.specs.Prelude.{ℕ, ◌+◌, ◌*◌, ◌^◌, Bool, List, [], ◌∷◌, ◌++◌}
+use Rattle.ops.specs.declared.numbers.Field.{Field}
 use Rattle.ops.specs.Numbers as n
 use Rattle.ops.specs.Ops.{Op, write, modify, wait, clear_bits, ◌≔◌}
 use Rattle.base.specs.Bits.{bit}
@@ -38,7 +39,7 @@ abbrev pub tx_port_cfg_res_ops : List Op
 tx_port_cfg_res_ops = (lmp_tx 0 (lmp_word 6 1) ∷ lmp_tx 1 0 ∷ lmp_tx 2 0 ∷ []) ++ tx_cap_vld_ops
 
 -- acknowledges one flag of the link layer
-abbrev pub link_ack_ops : ℕ → List Op
+abbrev pub link_ack_ops : Field → List Op
 link_ack_ops flag = write n.link_int_flag 0 (flag ≔ 1) [] ∷ []
 
 -- holds the link in eSS.Disabled, or lets it go

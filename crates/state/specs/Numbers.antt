@@ -1,10 +1,8 @@
 -- The numbers of document 01: refusals, and the ranges of readings.
 -- Assumes nothing.
-use Rattle.std.specs.Prelude.{ℕ, Bool, true, leb}
+use Rattle.std.specs.Prelude.{ℕ, Bool, true, leb, Result, Ok, Err}
 use Rattle.state.specs.declared.Refusal.{Refusal}
 use Rattle.state.specs.declared.Refusal.TheVariants as refusal
-use Rattle.state.specs.declared.Check.{Check}
-use Rattle.state.specs.declared.Check.TheVariants as check
 use Rattle.state.specs.declared.Reading.{Reading}
 use Rattle.state.specs.declared.Reading.TheVariants as reading
 
@@ -34,9 +32,9 @@ refusal_number refusal.NotSuspended = 25
 refusal_number refusal.Unsound = 26
 
 -- 0 where a call isn't refused
-abbrev pub check_number : Check → ℕ
-check_number check.Fits = 0
-check_number (check.Refused r) = refusal_number r
+abbrev pub check_number : {A : Type 0} → Result A Refusal → ℕ
+check_number (Ok x) = 0
+check_number (Err r) = refusal_number r
 
 -- refusal 11: endpoint 0–15, EP0 length 0–512, sequence 0–31, packets 0–255, last length 0–65535
 abbrev pub reading_in_range : Reading → Bool

@@ -1,9 +1,11 @@
 -- Which refusal a call gives where several apply: the first in document 01's sequence.
 -- Assumes nothing.
-use Rattle.std.specs.Prelude.{Bool, true, false, List, [], ◌∷◌}
+use Rattle.std.specs.Prelude.{Bool, true, false, List, [], ◌∷◌, Result, Ok, Err}
 use Rattle.state.specs.declared.Refusal.{Refusal}
-use Rattle.state.specs.declared.Check.{Check}
-use Rattle.state.specs.declared.Check.TheVariants.{Fits, Refused}
+
+-- what a call's tests come to
+abbrev pub Check : Type 0
+Check = Result Unit Refusal
 
 -- a refusal, and whether its condition holds
 infix 70 ◌if◌
@@ -11,12 +13,12 @@ pub data Condition : Type 0 where
   ◌if◌ : Refusal → Bool → Condition
 
 abbrev pub refuse_if : Bool → Refusal → Check → Check
-refuse_if true r further = Refused r
+refuse_if true r further = Err r
 refuse_if false r further = further
 
 -- the first that is due
 abbrev pub first_refusal : List Condition → Check
-first_refusal [] = Fits
+first_refusal [] = Ok tt
 first_refusal ((r if b) ∷ ds) = refuse_if b r (first_refusal ds)
 
 -- none of them is
@@ -31,5 +33,5 @@ pub data FirstIs (r : Refusal) : List Condition → Type 0 where
 
 -- A call fits exactly where no refusal is due, and is refused with r exactly where r is the first that is.
 abbrev pub Bound : List Condition → Check → Type 0
-Bound ds Fits = NoneDue ds
-Bound ds (Refused r) = FirstIs r ds
+Bound ds (Ok u) = NoneDue ds
+Bound ds (Err r) = FirstIs r ds

@@ -1,7 +1,6 @@
 -- The state by groups of fields, and with one group changed. Only here are all fields listed.
 -- Assumes nothing.
-use Rattle.std.specs.Prelude.{ℕ, Bool, true, false, List, set}
-use Rattle.state.specs.declared.Setup.{Setup}
+use Rattle.std.specs.Prelude.{ℕ, Bool, false, List, set, Option, Some, None}
 use Rattle.state.specs.declared.Slot.{Slot}
 use Rattle.state.specs.declared.Awaited.{Awaited}
 use Rattle.state.specs.declared.State.{State}
@@ -19,13 +18,11 @@ pub record Link : Type 0 where
 
 -- a SETUP that waits, generation, whether the IN packet is the last, sequence, an address that waits
 pub record Control : Type 0 where
-  pub waits : Bool
-  pub setup : Setup
+  pub setup : Option (List ℕ)
   pub generation : ℕ
   pub last : Bool
   pub sequence : ℕ
-  pub has : Bool
-  pub address : ℕ
+  pub address : Option ℕ
 
 abbrev pub power_of : State → Power
 power_of s = record { memory = s.ep0_address; on = s.powered; revision = s.revision }
@@ -36,12 +33,10 @@ link_of s = record { suspended = s.suspended; seen = s.reset_seen; low = s.low_p
 abbrev pub control_of : State → Control
 control_of s =
     record {
-      waits = s.has_setup;
       setup = s.setup;
       generation = s.control_generation;
       last = s.in_last;
       sequence = s.tx_seq;
-      has = s.has_address;
       address = s.address;
     }
 
@@ -53,12 +48,10 @@ state_of slots p l c wake a =
       powered = p.on;
       suspended = l.suspended;
       wake = wake;
-      has_setup = c.waits;
       setup = c.setup;
       control_generation = c.generation;
       in_last = c.last;
       tx_seq = c.sequence;
-      has_address = c.has;
       address = c.address;
       revision = p.revision;
       reset_seen = l.seen;
@@ -88,31 +81,27 @@ with_wake s wake = state_of s.endpoints (power_of s) (link_of s) (control_of s) 
 abbrev pub with_awaited : State → Awaited → State
 with_awaited s a = state_of s.endpoints (power_of s) (link_of s) (control_of s) s.wake a
 
--- no SETUP waits; its bytes stay
+-- no SETUP waits
 abbrev pub unasked : State → State
 unasked s =
     with_control s
     (record {
-      waits = false;
-      setup = s.setup;
+      setup = None;
       generation = s.control_generation;
       last = s.in_last;
       sequence = s.tx_seq;
-      has = s.has_address;
       address = s.address;
     })
 
 -- a SETUP waits with its bytes
-abbrev pub with_setup : State → Setup → State
+abbrev pub with_setup : State → List ℕ → State
 with_setup s bytes =
     with_control s
     (record {
-      waits = true;
-      setup = bytes;
+      setup = Some bytes;
       generation = s.control_generation;
       last = s.in_last;
       sequence = s.tx_seq;
-      has = s.has_address;
       address = s.address;
     })
 
@@ -121,26 +110,22 @@ abbrev pub with_sequence : State → ℕ → State
 with_sequence s q =
     with_control s
     (record {
-      waits = s.has_setup;
       setup = s.setup;
       generation = s.control_generation;
       last = s.in_last;
       sequence = q;
-      has = s.has_address;
       address = s.address;
     })
 
 -- an IN stage: whether its packet is the last, and the address that waits for the status stage, if one does
-abbrev pub with_stage : State → Bool → Bool → ℕ → State
-with_stage s last has address =
+abbrev pub with_stage : State → Bool → Option ℕ → State
+with_stage s last address =
     with_control s
     (record {
-      waits = s.has_setup;
       setup = s.setup;
       generation = s.control_generation;
       last = last;
       sequence = s.tx_seq;
-      has = has;
       address = address;
     })
 

@@ -1,6 +1,4 @@
 // The driver's state and what its calls answer (reference: the types of device.rs).
-//
-// An `Option` of the Rust is a flag and a value here; where the flag is clear, the value means nothing.
 #![tactic(auto)]
 
 pub mod fresh;
@@ -9,12 +7,19 @@ pub mod refusals;
 
 pub const EP0_SIZE: u32 = 512;
 
-#[derive(Clone, Copy)]
+#[derive(Clone, Copy, PartialEq, Eq)]
 pub enum EndpointType {
     Control,
     Isochronous,
     Bulk,
     Interrupt,
+}
+
+// An endpoint's number and direction.
+#[derive(Clone, Copy, PartialEq, Eq)]
+pub struct EndpointAddress {
+    pub index: u8,
+    pub incoming: bool,
 }
 
 // Where a buffer lies, and how long it is.
@@ -24,11 +29,10 @@ pub struct Buffer {
     pub size: u32,
 }
 
-// What an endpoint was allocated with. `index` and `incoming` are its address, `buffer` is its own buffer.
+// What an endpoint was allocated with. `buffer` is its own buffer.
 #[derive(Clone, Copy)]
 pub struct EndpointConfig {
-    pub index: u8,
-    pub incoming: bool,
+    pub endpoint: EndpointAddress,
     pub ep_type: EndpointType,
     pub max_packet_size: u16,
     pub interval_ms: u8,
@@ -36,7 +40,7 @@ pub struct EndpointConfig {
     pub buffer: Buffer,
 }
 
-#[derive(Clone, Copy)]
+#[derive(Clone, Copy, PartialEq, Eq)]
 pub enum Phase {
     Idle,
     Busy,
@@ -64,30 +68,19 @@ pub struct Tally {
 // One direction of an endpoint; its number is 2 * index, and 1 more for IN.
 #[derive(Clone, Copy)]
 pub struct Slot {
-    pub configured: bool,
     pub enabled: bool,
     pub stalled: bool,
     pub phase: Phase,
-    pub config: EndpointConfig,
+    pub config: Option<EndpointConfig>,
     pub transfer: Transfer,
     pub tally: Tally,
 }
 
 // The eight bytes of a SETUP.
-#[derive(Clone, Copy)]
-pub struct Setup {
-    pub b0: u8,
-    pub b1: u8,
-    pub b2: u8,
-    pub b3: u8,
-    pub b4: u8,
-    pub b5: u8,
-    pub b6: u8,
-    pub b7: u8,
-}
+pub type Setup = [u8; 8];
 
 // States of the link that the driver tells apart.
-#[derive(Clone, Copy)]
+#[derive(Clone, Copy, PartialEq, Eq)]
 pub enum LinkState {
     U0,
     U1,
@@ -148,10 +141,9 @@ pub enum Reading {
     LastLength(u32),
 }
 
-// The reading that an interrupt awaits. The link status is asked at up to three places.
-#[derive(Clone, Copy)]
+// A reading that an interrupt awaits. The link status is asked at up to three places.
+#[derive(Clone, Copy, PartialEq, Eq)]
 pub enum Awaiting {
-    Nothing,
     LinkFlags,
     LinkStatus,
     PortCapability,
@@ -170,7 +162,7 @@ pub enum Awaiting {
 // report the endpoint and its packets.
 #[derive(Clone, Copy)]
 pub struct Awaited {
-    pub next: Awaiting,
+    pub next: Option<Awaiting>,
     pub flags: LinkFlags,
     pub link_state: LinkState,
     pub endpoint: u8,
@@ -187,8 +179,7 @@ pub struct State {
     // slots that the end of the next interrupt wakes
     pub wake: u16,
     // a SETUP that nobody has fetched
-    pub has_setup: bool,
-    pub setup: Setup,
+    pub setup: Option<Setup>,
     // one more with each SETUP and bus reset
     pub control_generation: u32,
     // the EP0 IN packet that is armed is the last of its data stage
@@ -196,8 +187,7 @@ pub struct State {
     // as the last EP0 IN report gave it
     pub tx_seq: u8,
     // the device address that waits for its status stage
-    pub has_address: bool,
-    pub address: u8,
+    pub address: Option<u8>,
     pub revision: u8,
     // a reset was raised since the link came up
     pub reset_seen: bool,
@@ -227,28 +217,19 @@ pub struct Wakes {
     pub slots: u16,
 }
 
-// What is allocated for a slot.
-#[derive(Clone, Copy)]
-pub struct Allocation {
-    pub configured: bool,
-    pub config: EndpointConfig,
-}
-
-// `memory` begins with EP0's 512 bytes; `used` of its `capacity` bytes are taken.
+// `memory` begins with EP0's 512 bytes; `used` of its `capacity` bytes are taken. Each slot has what is allocated for it.
 #[derive(Clone, Copy)]
 pub struct Driver {
     pub memory: u32,
     pub capacity: u32,
     pub used: u32,
-    pub endpoints: [Allocation; 16],
+    pub endpoints: [Option<EndpointConfig>; 16],
 }
 
-// What an endpoint is to be. Where `requested`, it is to have the address of `index` and `incoming`.
+// What an endpoint is to be, and the address that it is to have, if any will not do.
 #[derive(Clone, Copy)]
 pub struct EndpointRequest {
-    pub requested: bool,
-    pub index: u8,
-    pub incoming: bool,
+    pub endpoint: Option<EndpointAddress>,
     pub ep_type: EndpointType,
     pub max_packet_size: u16,
     pub interval_ms: u8,
@@ -257,8 +238,8 @@ pub struct EndpointRequest {
     pub mult: u8,
 }
 
-// Why a call is refused; `refusal_number` has the numbers.
-#[derive(Clone, Copy)]
+// Why a call is refused. As a `u32` it is its number.
+#[derive(Clone, Copy, PartialEq, Eq)]
 pub enum Refusal {
     MemoryOutsideRam,
     MemoryTooSmall,
@@ -278,11 +259,4 @@ pub enum Refusal {
     OutOfTurn,
     NotSuspended,
     Unsound,
-}
-
-// What a call's tests come to.
-#[derive(Clone, Copy)]
-pub enum Check {
-    Fits,
-    Refused(Refusal),
 }

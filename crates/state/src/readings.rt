@@ -24,37 +24,35 @@ pub fn reading_in_range(reading: Reading) -> bool
 }
 
 // The place of an awaited reading in an interrupt's sequence; 0 where none is.
-pub fn awaiting_number(next: Awaiting) -> u32
+pub fn awaiting_number(next: Option<Awaiting>) -> u32
     ensures { result ≡ awaiting_number next }
 {
     match next {
-        Awaiting::Nothing => 0,
-        Awaiting::LinkFlags => 1,
-        Awaiting::LinkStatus => 2,
-        Awaiting::PortCapability => 3,
-        Awaiting::TermPresStatus => 4,
-        Awaiting::MessageWord => 5,
-        Awaiting::WarmResetStatus => 6,
-        Awaiting::TransferStatus => 7,
-        Awaiting::SetupBytes => 8,
-        Awaiting::Ep0Length => 9,
-        Awaiting::Ep0Sequence => 10,
-        Awaiting::ChainPackets => 11,
-        Awaiting::LastLength => 12,
+        None => 0,
+        Some(Awaiting::LinkFlags) => 1,
+        Some(Awaiting::LinkStatus) => 2,
+        Some(Awaiting::PortCapability) => 3,
+        Some(Awaiting::TermPresStatus) => 4,
+        Some(Awaiting::MessageWord) => 5,
+        Some(Awaiting::WarmResetStatus) => 6,
+        Some(Awaiting::TransferStatus) => 7,
+        Some(Awaiting::SetupBytes) => 8,
+        Some(Awaiting::Ep0Length) => 9,
+        Some(Awaiting::Ep0Sequence) => 10,
+        Some(Awaiting::ChainPackets) => 11,
+        Some(Awaiting::LastLength) => 12,
     }
 }
 
-pub fn is_awaiting(next: Awaiting) -> bool
+pub fn is_awaiting(next: Option<Awaiting>) -> bool
     ensures { result ≡ awaitingb next }
 {
-    let n = awaiting_number(next);
-    n != 0
+    awaiting_number(next) != 0
 }
 
 // Whether a reading of a data endpoint's chain is awaited.
-pub fn is_chain_reading(next: Awaiting) -> bool
+pub fn is_chain_reading(next: Option<Awaiting>) -> bool
     ensures { result ≡ chain_readingb next }
 {
-    let n = awaiting_number(next);
-    11 <= n
+    11 <= awaiting_number(next)
 }

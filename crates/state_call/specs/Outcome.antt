@@ -1,14 +1,13 @@
 -- What a call comes to, refused or not. Every call is one function to an `Outcome`, built by `unless`; its arguments are
 -- the list's room, state, events and then its own.
 -- Assumes nothing.
-use Rattle.std.specs.Prelude.{ℕ, List, [], ◌++◌, length, drop}
+use Rattle.std.specs.Prelude.{ℕ, List, [], ◌++◌, length, drop, Ok, Err}
 use Rattle.ops.specs.Ops.{Op}
 use Rattle.state.specs.declared.State.{State}
 use Rattle.state.specs.declared.Events.{Events}
 use Rattle.state.specs.declared.Wakes.{Wakes}
 use Rattle.state.specs.declared.Refusal.{Refusal}
-use Rattle.state.specs.declared.Check.{Check}
-use Rattle.state.specs.declared.Check.TheVariants.{Fits, Refused}
+use Rattle.state.specs.Refusals.{Check}
 use Rattle.state_slots.specs.Waking.{no_wakes}
 
 -- A is the call's own kind of answer; `copied` are the bytes that it stores in what it is lent for bytes: at the start, or,
@@ -23,8 +22,8 @@ pub record Outcome (A : Type 0) : Type 0 where
 
 -- one of two, by what tests come to
 unfoldable pub or_else : {B : Type 0} → Check → (Refusal → B) → B → B
-or_else Fits refused made = made
-or_else (Refused r) refused made = refused r
+or_else (Ok u) refused made = made
+or_else (Err r) refused made = refused r
 
 -- a refused call answers with its refusal, changes nothing, makes no operation, wakes nobody and copies nothing
 abbrev pub refusal : {A : Type 0} → A → State → Events → Outcome A

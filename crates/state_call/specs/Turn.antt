@@ -1,6 +1,6 @@
 -- The conditions that come before a call's own, in document 01's sequence.
 -- Assumes nothing.
-use Rattle.std.specs.Prelude.{ℕ, Bool, not, List, ◌∷◌, ltb}
+use Rattle.std.specs.Prelude.{ℕ, Bool, not, List, ◌∷◌, ltb, Option}
 use Rattle.ops.specs.Ops.{list_numbers}
 use Rattle.state.specs.declared.Awaiting.{Awaiting}
 use Rattle.state.specs.declared.State.{State}
@@ -11,11 +11,11 @@ use Rattle.state.specs.Refusals.{Condition, ◌if◌}
 use Rattle.state_sound.specs.Sound.{soundb}
 
 -- 26 and 24, by whether everything is sound and by what is awaited
-abbrev pub turn_of : Bool → Awaiting → List Condition → List Condition
+abbrev pub turn_of : Bool → Option Awaiting → List Condition → List Condition
 turn_of good next own = Unsound if not good ∷ OutOfTurn if awaitingb next ∷ own
 
 -- 10 before them, of a list with room for so many numbers
-abbrev pub admitted_of : ℕ → Bool → Awaiting → List Condition → List Condition
+abbrev pub admitted_of : ℕ → Bool → Option Awaiting → List Condition → List Condition
 admitted_of room good next own = ListTooShort if ltb room list_numbers ∷ turn_of good next own
 
 -- a call without a list, and one with

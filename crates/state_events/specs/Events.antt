@@ -1,11 +1,11 @@
 -- What raising an event and asking for one do to the byte of pending events (reference: `raise` and `poll` of device.rs).
 -- Assumes nothing.
-use Rattle.std.specs.Prelude.{ℕ, ◌+◌, ◌-◌, Bool, ◌&&◌, ◌||◌, cond, List, [], ◌∷◌, eqb}
+use Rattle.std.specs.Prelude.{ℕ, ◌+◌, ◌-◌, Bool, ◌&&◌, ◌||◌, cond, List, [], ◌∷◌, eqb, Option, Some, None, Result, Ok, Err}
 use Rattle.state.specs.declared.Events.{Events}
 use Rattle.state_events.specs.declared.Event.{Event}
 use Rattle.state_events.specs.declared.Event.TheVariants as event
-use Rattle.state_events.specs.declared.Pending.{Pending}
-use Rattle.state_events.specs.declared.Pending.TheVariants as pending
+use Rattle.state.specs.declared.Refusal.{Refusal}
+use Rattle.state.specs.declared.Refusal.TheVariants.{OutOfRange}
 use Rattle.state_events.specs.Bytes.{reset, suspend, resume, power, pendingb}
 
 -- the bit of each event
@@ -18,6 +18,15 @@ event_number event.Resume = resume
 -- whether a number is the bit of an event
 abbrev pub eventb : ℕ → Bool
 eventb v = eqb v reset || eqb v suspend || eqb v resume || eqb v power
+
+-- the event with a bit; any other number is refused
+abbrev pub event_of : ℕ → Result Event Refusal
+event_of v =
+    cond (eqb v power) (Ok event.PowerDetected)
+    (cond (eqb v reset) (Ok event.Reset)
+    (cond (eqb v suspend) (Ok event.Suspend)
+    (cond (eqb v resume) (Ok event.Resume)
+    (Err OutOfRange))))
 
 -- the byte with one event set, and with one cleared; the other bits stay
 abbrev pub with_event : ℕ → ℕ → ℕ
@@ -51,23 +60,23 @@ abbrev pub precedence : List Event
 precedence = event.PowerDetected ∷ event.Reset ∷ event.Suspend ∷ event.Resume ∷ []
 
 -- the first of a list that is pending
-abbrev pub first_pending : ℕ → List Event → Pending
-first_pending e [] = pending.Nothing
-first_pending e (v ∷ vs) = cond (pendingb e (event_number v)) (pending.Event v) (first_pending e vs)
+abbrev pub first_pending : ℕ → List Event → Option Event
+first_pending e [] = None
+first_pending e (v ∷ vs) = cond (pendingb e (event_number v)) (Some v) (first_pending e vs)
 
 -- the pending event of highest precedence
-abbrev pub next_pending : ℕ → Pending
+abbrev pub next_pending : ℕ → Option Event
 next_pending e = first_pending e precedence
 
 -- its number, 0 where none is pending
-abbrev pub pending_number : Pending → ℕ
-pending_number pending.Nothing = 0
-pending_number (pending.Event v) = event_number v
+abbrev pub pending_number : Option Event → ℕ
+pending_number None = 0
+pending_number (Some v) = event_number v
 
 -- the byte once it was given: it is cleared
-abbrev pub without_pending : ℕ → Pending → ℕ
-without_pending e pending.Nothing = e
-without_pending e (pending.Event v) = without_event e (event_number v)
+abbrev pub without_pending : ℕ → Option Event → ℕ
+without_pending e None = e
+without_pending e (Some v) = without_event e (event_number v)
 
 abbrev pub poll_byte : ℕ → ℕ
 poll_byte e = without_pending e (next_pending e)

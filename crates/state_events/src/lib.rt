@@ -1,13 +1,13 @@
 // The byte of pending events (reference: `raise` and `poll` of device.rs).
 #![tactic(auto)]
 
-ghost use Rattle.std.specs.Prelude.{◌<◌, ◌≡◌, true};
+ghost use Rattle.std.specs.Prelude.{◌≡◌};
 ghost use Rattle.state_events.specs.Bytes.{pendingb, events_soundb};
-ghost use Rattle.state_events.specs.Events.{event_number, eventb, with_event, without_event, only_reset, raised, raise_byte, raise_event, next_pending, without_pending};
+ghost use Rattle.state_events.specs.Events.{event_number, event_of, with_event, without_event, only_reset, raised, raise_byte, raise_event, next_pending, without_pending};
 
-use state::{Events, POWER, RESET, RESUME, SUSPEND};
+use state::{Events, POWER, RESET, RESUME, Refusal, SUSPEND};
 
-#[derive(Clone, Copy)]
+#[derive(Clone, Copy, PartialEq, Eq)]
 pub enum Event {
     PowerDetected,
     Reset,
@@ -15,17 +15,41 @@ pub enum Event {
     Resume,
 }
 
-// The event that is to be handed out next.
-#[derive(Clone, Copy)]
-pub enum Pending {
-    Nothing,
-    Event(Event),
+// The bit of an event.
+impl From<Event> for u8 {
+    ghost from_gives = { λ event number. number ≡ event_number event };
+
+    fn from(event: Event) -> u8 {
+        match event {
+            Event::PowerDetected => POWER,
+            Event::Reset => RESET,
+            Event::Suspend => SUSPEND,
+            Event::Resume => RESUME,
+        }
+    }
 }
 
-fn is_pending(events: u8, flag: u8) -> bool
-    requires { 0 < flag }
-    ensures { result ≡ pendingb events flag }
+// The event with a bit; any other number is out of range.
+impl TryFrom<u8> for Event {
+    type Error = Refusal;
+
+    ghost try_from_gives = { λ number outcome. outcome ≡ event_of number };
+
+    fn try_from(number: u8) -> Result<Event, Refusal> {
+        match number {
+            POWER => Ok(Event::PowerDetected),
+            RESET => Ok(Event::Reset),
+            SUSPEND => Ok(Event::Suspend),
+            RESUME => Ok(Event::Resume),
+            _ => Err(Refusal::OutOfRange),
+        }
+    }
+}
+
+fn is_pending(events: u8, event: Event) -> bool
+    ensures { result ≡ pendingb events (event_number event) }
 {
+    let flag = u8::from(event);
     events / flag % 2 == 1
 }
 
@@ -37,41 +61,20 @@ pub fn events_sound(events: Events) -> bool
     !(suspend & resume)
 }
 
-pub fn event_number(event: Event) -> u8
-    ensures { result ≡ event_number event }
+fn with_event(events: u8, event: Event) -> u8
+    ensures { result ≡ with_event events (event_number event) }
 {
-    match event {
-        Event::PowerDetected => POWER,
-        Event::Reset => RESET,
-        Event::Suspend => SUSPEND,
-        Event::Resume => RESUME,
-    }
-}
-
-pub fn is_event(event: u8) -> bool
-    ensures { result ≡ eventb event }
-{
-    (event == RESET) | (event == SUSPEND) | (event == RESUME) | (event == POWER)
-}
-
-fn with_event(events: u8, flag: u8) -> u8
-    requires { eventb flag ≡ true }
-    ensures { result ≡ with_event events flag }
-{
-    let pending = is_pending(events, flag);
-    if pending {
+    if is_pending(events, event) {
         return events;
     }
-    events + flag
+    events + u8::from(event)
 }
 
-fn without_event(events: u8, flag: u8) -> u8
-    requires { eventb flag ≡ true }
-    ensures { result ≡ without_event events flag }
+fn without_event(events: u8, event: Event) -> u8
+    ensures { result ≡ without_event events (event_number event) }
 {
-    let pending = is_pending(events, flag);
-    if pending {
-        return events - flag;
+    if is_pending(events, event) {
+        return events - u8::from(event);
     }
     events
 }
@@ -80,86 +83,73 @@ fn without_event(events: u8, flag: u8) -> u8
 fn only_reset(events: u8) -> u8
     ensures { result ≡ only_reset events }
 {
-    let has_power = is_pending(events, POWER);
-    if has_power {
+    if is_pending(events, Event::PowerDetected) {
         return RESET + POWER;
     }
     RESET
 }
 
 // SUSPEND and RESUME take each other back.
-fn after_raise(events: u8, event: u8) -> u8
-    requires { eventb event ≡ true }
-    ensures { result ≡ raised events event }
+fn after_raise(events: u8, event: Event) -> u8
+    ensures { result ≡ raised events (event_number event) }
 {
-    let has_suspend = is_pending(events, SUSPEND);
-    let has_resume = is_pending(events, RESUME);
-    if event == RESET {
-        return only_reset(events);
+    match event {
+        Event::Reset => only_reset(events),
+        Event::Suspend if is_pending(events, Event::Resume) => without_event(events, Event::Resume),
+        Event::Resume if is_pending(events, Event::Suspend) => without_event(
+            events,
+            Event::Suspend,
+        ),
+        _ => with_event(events, event),
     }
-    if (event == SUSPEND) & has_resume {
-        return without_event(events, RESUME);
-    }
-    if (event == RESUME) & has_suspend {
-        return without_event(events, SUSPEND);
-    }
-    with_event(events, event)
 }
 
 // The events after a number was raised; one that is no event leaves them alone.
 pub fn raise_byte(events: Events, event: u8) -> Events
     ensures { result.events ≡ raise_byte events.events event }
 {
-    let known = is_event(event);
-    if known {
-        let after = after_raise(events.events, event);
-        return Events { events: after };
+    match Event::try_from(event) {
+        Ok(event) => raise_event(events, event),
+        Err(_) => events,
     }
-    events
 }
 
 // An event raised from inside.
 pub fn raise_event(events: Events, event: Event) -> Events
     ensures { result ≡ raise_event events event }
 {
-    let flag = event_number(event);
-    let after = after_raise(events.events, flag);
-    Events { events: after }
+    Events {
+        events: after_raise(events.events, event),
+    }
 }
 
 // The pending event of highest precedence.
-pub fn next_pending(events: Events) -> Pending
+pub fn next_pending(events: Events) -> Option<Event>
     ensures { result ≡ next_pending events.events }
 {
-    let power = is_pending(events.events, POWER);
-    if power {
-        return Pending::Event(Event::PowerDetected);
+    if is_pending(events.events, Event::PowerDetected) {
+        return Some(Event::PowerDetected);
     }
-    let reset = is_pending(events.events, RESET);
-    if reset {
-        return Pending::Event(Event::Reset);
+    if is_pending(events.events, Event::Reset) {
+        return Some(Event::Reset);
     }
-    let suspend = is_pending(events.events, SUSPEND);
-    if suspend {
-        return Pending::Event(Event::Suspend);
+    if is_pending(events.events, Event::Suspend) {
+        return Some(Event::Suspend);
     }
-    let resume = is_pending(events.events, RESUME);
-    if resume {
-        return Pending::Event(Event::Resume);
+    if is_pending(events.events, Event::Resume) {
+        return Some(Event::Resume);
     }
-    Pending::Nothing
+    None
 }
 
 // The events without the one that was handed out.
-pub fn without(events: Events, pending: Pending) -> Events
+pub fn without(events: Events, pending: Option<Event>) -> Events
     ensures { result.events ≡ without_pending events.events pending }
 {
     match pending {
-        Pending::Nothing => events,
-        Pending::Event(event) => {
-            let flag = event_number(event);
-            let left = without_event(events.events, flag);
-            Events { events: left }
-        }
+        None => events,
+        Some(event) => Events {
+            events: without_event(events.events, event),
+        },
     }
 }

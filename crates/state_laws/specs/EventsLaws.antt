@@ -1,11 +1,9 @@
 -- Laws of `raise` and `poll`, over every number and not just bytes.
 -- Assumes nothing.
-use Rattle.std.specs.Prelude.{ℕ, ◌+◌, ◌/◌, ◌<◌, Bool, true, false, ◌&&◌, not, cond, ◌≡◌, refl, eqb}
+use Rattle.std.specs.Prelude.{ℕ, ◌+◌, ◌/◌, ◌<◌, Bool, true, false, ◌&&◌, not, cond, ◌≡◌, refl, eqb, Option, Some, None}
 use Rattle.std.proofs.Common.{sym, ◌∙◌, subst, arith, ne_eqb}
 use Rattle.state_events.specs.declared.Event.{Event}
 use Rattle.state_events.specs.declared.Event.TheVariants as event
-use Rattle.state_events.specs.declared.Pending.{Pending}
-use Rattle.state_events.specs.declared.Pending.TheVariants as pending
 use Rattle.state_events.specs.Bytes.{reset, suspend, resume, power, pendingb, events_soundb}
 use Rattle.state_events.specs.Events.{event_number, eventb, with_event, without_event, raised, raise_byte, precedence, first_pending, next_pending, without_pending, poll_byte}
 use Rattle.state_events.specs.BytesLaws.{either, each, each_number, number_event, up, set_other, set_rest, clear_same, clear_other, clear_rest}
@@ -63,9 +61,9 @@ poll_sound e s = left (next_pending e)
         (no_suspend (without_event e suspend) (clear_same e suspend refl))
         (no_resume (without_event e resume) (clear_same e resume refl))
 
-    left : (a : Pending) → events_soundb (without_pending e a) ≡ true
-    left pending.Nothing = s
-    left (pending.Event v) = cleared v
+    left : (a : Option Event) → events_soundb (without_pending e a) ≡ true
+    left None = s
+    left (Some v) = cleared v
 
 -- of two events that cancel, the second takes the first back
 module _
@@ -138,9 +136,9 @@ raise_rest e v d =
 pub poll_rest : (e : ℕ) → poll_byte e / 16 ≡ e / 16
 poll_rest e = left (next_pending e)
   where
-    left : (a : Pending) → without_pending e a / 16 ≡ e / 16
-    left pending.Nothing = refl
-    left (pending.Event v) = clear_rest e (event_number v) (number_event v)
+    left : (a : Option Event) → without_pending e a / 16 ≡ e / 16
+    left None = refl
+    left (Some v) = clear_rest e (event_number v) (number_event v)
 
 -- the rank of an event in the precedence, the highest at 0
 abbrev pub rank : Event → ℕ
@@ -155,9 +153,9 @@ pub record Highest (e : ℕ) (v : Event) : Type 0 where
   pub none_above : (w : Event) → rank w < rank v → pendingb e (event_number w) ≡ false
 
 -- what each answer to a poll says of the byte
-abbrev pub Says : ℕ → Pending → Type 0
-Says e pending.Nothing = NonePending e
-Says e (pending.Event v) = Highest e v
+abbrev pub Says : ℕ → Option Event → Type 0
+Says e None = NonePending e
+Says e (Some v) = Highest e v
 
 last : (v : Event) → 3 < rank v → ⊥
 last = each (λ v. 3 < rank v → ⊥) (λ l. omega arith) (λ l. omega arith) (λ l. omega arith) (λ l. omega arith)
@@ -184,34 +182,34 @@ poll_says_lem e = first
 
     first : Says e (first_pending e precedence)
     first =
-        either (Says e) (pendingb e power) (pending.Event event.PowerDetected) _
+        either (Says e) (pendingb e power) (Some event.PowerDetected) _
         (λ t. highest event.PowerDetected t (λ l. absurd (omega arith)) (λ l. absurd (omega arith)) (λ l. absurd (omega arith)))
         (λ p.
-        either (Says e) (pendingb e reset) (pending.Event event.Reset) _
+        either (Says e) (pendingb e reset) (Some event.Reset) _
         (λ t. highest event.Reset t (λ l. p) (λ l. absurd (omega arith)) (λ l. absurd (omega arith)))
         (λ r.
-        either (Says e) (pendingb e suspend) (pending.Event event.Suspend) _
+        either (Says e) (pendingb e suspend) (Some event.Suspend) _
         (λ t. highest event.Suspend t (λ l. p) (λ l. r) (λ l. absurd (omega arith)))
         (λ s.
-        either (Says e) (pendingb e resume) (pending.Event event.Resume) pending.Nothing
+        either (Says e) (pendingb e resume) (Some event.Resume) None
         (λ t. highest event.Resume t (λ l. p) (λ l. r) (λ l. s))
         (λ m. each Clear p r s m))))
 
 -- read for an event: it was the highest pending one, isn't pending any more, and the others are as they were
-pub given_highest : (e : ℕ) (v : Event) → next_pending e ≡ pending.Event v → Highest e v
+pub given_highest : (e : ℕ) (v : Event) → next_pending e ≡ Some v → Highest e v
 given_highest e v h = subst (Says e) h (poll_says_lem e)
 
-pub given_gone : (e : ℕ) (v : Event) → next_pending e ≡ pending.Event v → pendingb (poll_byte e) (event_number v) ≡ false
+pub given_gone : (e : ℕ) (v : Event) → next_pending e ≡ Some v → pendingb (poll_byte e) (event_number v) ≡ false
 given_gone e v h = rw h (clear_same e (event_number v) (number_event v))
 
 pub given_others :
-    (e : ℕ) (v w : Event) → next_pending e ≡ pending.Event v → (event_number v ≡ event_number w → ⊥) → pendingb (poll_byte e) (event_number w) ≡ pendingb e (event_number w)
+    (e : ℕ) (v w : Event) → next_pending e ≡ Some v → (event_number v ≡ event_number w → ⊥) → pendingb (poll_byte e) (event_number w) ≡ pendingb e (event_number w)
 given_others e v w h = rw h (clear_other e (event_number v) (event_number w) (number_event v) (number_event w))
 
 -- Nothing is the answer exactly where none of the four is pending
-pub nothing_none : (e : ℕ) → next_pending e ≡ pending.Nothing → NonePending e
+pub nothing_none : (e : ℕ) → next_pending e ≡ None → NonePending e
 nothing_none e h = subst (Says e) h (poll_says_lem e)
 
-pub none_nothing : (e : ℕ) → NonePending e → next_pending e ≡ pending.Nothing
+pub none_nothing : (e : ℕ) → NonePending e → next_pending e ≡ None
 none_nothing e n =
     rw (n event.PowerDetected, n event.Reset, n event.Suspend, n event.Resume)

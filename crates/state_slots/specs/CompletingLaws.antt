@@ -7,7 +7,7 @@ use Rattle.state.specs.Fresh.{fresh_slot, slot_at}
 use Rattle.state.specs.Setters.{with_slot, with_wake}
 use Rattle.state_slots.specs.Slots.{busyb}
 use Rattle.state_slots.specs.Waking.{add_slot}
-use Rattle.state_slots.specs.Completing.{waiter_of, done_slot, complete_at, complete, completed_slot, completed_wake, complete_as}
+use Rattle.state_slots.specs.Completing.{waiter_of, done_slot, complete_at, complete, complete_as}
 
 -- where the slot is what it was, that is the slot completed
 pub complete_stored : (s : State) (i : ℕ) → complete_as s i (slot_at s i) ≡ complete s i

@@ -1,7 +1,9 @@
 -- Slots, and the state they stand in.
 -- Assumes nothing.
-use Rattle.std.specs.Prelude.{ℕ, ◌+◌, ◌*◌, ◌%◌, ◌^◌, Bool, true, false, not, ◌&&◌, List, nat_le}
+use Rattle.std.specs.Prelude.{ℕ, ◌+◌, ◌*◌, ◌%◌, ◌^◌, Bool, true, false, not, ◌&&◌, List, nat_le, Option, Some, None}
 use Rattle.base.specs.Bits.{bit}
+use Rattle.state.specs.declared.Buffer.{Buffer}
+use Rattle.state.specs.declared.EndpointConfig.{EndpointConfig}
 use Rattle.state.specs.declared.Phase.{Phase}
 use Rattle.state.specs.declared.Phase.TheVariants.{Idle, Busy, Done}
 use Rattle.state.specs.declared.Transfer.{Transfer}
@@ -41,22 +43,30 @@ slot_place e incoming = slot_number e incoming % 16
 abbrev pub ready : Bool → Slot → Bool
 ready powered x = (powered && x.enabled) && not x.stalled
 
--- M
+-- whether an endpoint is configured
+abbrev pub configured : Option EndpointConfig → Bool
+configured None = false
+configured (Some k) = true
+
+-- M; 0 where nothing is configured
+abbrev pub size_of : Option EndpointConfig → ℕ
+size_of None = 0
+size_of (Some k) = k.max_packet_size
+
 abbrev pub slot_size : Slot → ℕ
-slot_size x = x.config.max_packet_size
+slot_size x = size_of x.config
+
+-- the endpoint's own buffer; one of no bytes where nothing is configured
+abbrev pub buffer_of : Option EndpointConfig → Buffer
+buffer_of None = record { address = 0; size = 0 }
+buffer_of (Some k) = k.buffer
+
+abbrev pub own_buffer : Slot → Buffer
+own_buffer x = buffer_of x.config
 
 -- a slot with another phase, transfer and tally
 abbrev pub changed_slot : Slot → Phase → Transfer → Tally → Slot
-changed_slot x phase t y =
-    record {
-      configured = x.configured;
-      config = x.config;
-      enabled = x.enabled;
-      stalled = x.stalled;
-      phase = phase;
-      transfer = t;
-      tally = y;
-    }
+changed_slot x phase t y = record x { phase = phase; transfer = t; tally = y }
 
 -- with another phase and transfer
 abbrev pub moved_slot : Slot → Phase → Transfer → Slot
@@ -65,18 +75,15 @@ moved_slot x phase t = changed_slot x phase t x.tally
 -- a cut transfer adds itself and its progress, modulo 2^32
 abbrev pub tally_cut : Tally → Bool → ℕ → Tally
 tally_cut t false n = t
-tally_cut t true n = record { begun = t.begun; finished = t.finished; cut = (t.cut + 1) % 2 ^ 32; bytes = (t.bytes + n) % 2 ^ 32 }
+tally_cut t true n = record t { cut = (t.cut + 1) % 2 ^ 32; bytes = (t.bytes + n) % 2 ^ 32 }
 
 -- a transfer of a data slot that is busy or done is cut; its fields stay
 abbrev pub forgotten : Slot → Bool → Bool → Bool → Slot
 forgotten x tallied enabled stalled =
-    record {
-      configured = x.configured;
-      config = x.config;
+    record x {
       enabled = enabled;
       stalled = stalled;
       phase = Idle;
-      transfer = x.transfer;
       tally = tally_cut x.tally (tallied && not (idleb x.phase)) x.transfer.progress;
     }
 

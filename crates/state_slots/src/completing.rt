@@ -3,6 +3,8 @@ ghost use Rattle.std.specs.Prelude.{◌≡◌};
 ghost use Rattle.state_slots.specs.Completing.{waiter_of, done_slot, completed_slot, completed_wake, collected};
 ghost use Rattle.state_slots.specs.Slots.{moved_slot};
 
+use super::is_busy;
+use super::waking::add_slot;
 use state::{Events, Phase, Slot, Transfer, Wakes};
 
 // A slot, and the slots that the end of the interrupt wakes.
@@ -16,16 +18,10 @@ pub struct Completed {
 pub fn moved(slot: Slot, phase: Phase, transfer: Transfer) -> Slot
     ensures { result ≡ moved_slot slot phase transfer }
 {
-    let config = slot.config;
-    let tally = slot.tally;
     Slot {
-        configured: slot.configured,
-        config: config,
-        enabled: slot.enabled,
-        stalled: slot.stalled,
-        phase: phase,
-        transfer: transfer,
-        tally: tally,
+        phase,
+        transfer,
+        ..slot
     }
 }
 
@@ -39,8 +35,10 @@ pub fn waiter_of(i: usize) -> usize
 pub fn done(slot: Slot) -> Slot
     ensures { result ≡ done_slot slot }
 {
-    let transfer = slot.transfer;
-    moved(slot, Phase::Done, transfer)
+    Slot {
+        phase: Phase::Done,
+        ..slot
+    }
 }
 
 // Slot i completed; one that isn't busy stays as it is.
@@ -48,21 +46,13 @@ pub fn complete(i: usize, slot: Slot, wake: u16) -> Completed
     ensures slot { result.slot ≡ completed_slot slot }
     ensures wake { result.wake ≡ completed_wake i slot wake }
 {
-    let phase = slot.phase;
-    let busy = super::is_busy(phase);
-    if busy {
-        let y = done(slot);
-        let waiter = waiter_of(i);
-        let more = super::waking::add_slot(wake, waiter);
+    if is_busy(slot.phase) {
         return Completed {
-            slot: y,
-            wake: more,
+            slot: done(slot),
+            wake: add_slot(wake, waiter_of(i)),
         };
     }
-    Completed {
-        slot: slot,
-        wake: wake,
-    }
+    Completed { slot, wake }
 }
 
 // Whom the end of an interrupt wakes; the set is emptied then.

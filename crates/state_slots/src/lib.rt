@@ -2,11 +2,12 @@
 #![tactic(auto)]
 
 ghost use Rattle.std.specs.Prelude.{◌≡◌};
-ghost use Rattle.state_slots.specs.Slots.{idleb, busyb, slot_number, slot_place, data_endpoint, tally_cut, forgotten, reset_slot};
+ghost use Rattle.state_slots.specs.Slots.{idleb, busyb, slot_number, slot_place, data_endpoint, slot_size, own_buffer, tally_cut, forgotten, reset_slot};
 ghost use Rattle.state.specs.Setters.{with_slot};
 ghost use Rattle.state.specs.Fresh.{slot_at};
 
-use state::{Phase, Slot, State, Tally};
+use state::fresh::fresh_slot;
+use state::{Buffer, EndpointAddress, Phase, Slot, State, Tally};
 
 pub mod completing;
 pub mod waking;
@@ -14,37 +15,28 @@ pub mod waking;
 pub fn is_idle(phase: Phase) -> bool
     ensures { result ≡ idleb phase }
 {
-    match phase {
-        Phase::Idle => true,
-        Phase::Busy => false,
-        Phase::Done => false,
-    }
+    phase == Phase::Idle
 }
 
 pub fn is_busy(phase: Phase) -> bool
     ensures { result ≡ busyb phase }
 {
-    match phase {
-        Phase::Idle => false,
-        Phase::Busy => true,
-        Phase::Done => false,
-    }
+    phase == Phase::Busy
 }
 
 // 2 * index, and 1 more for IN.
-pub fn slot_number(index: u8, incoming: bool) -> usize
-    ensures { result ≡ slot_number index incoming }
+pub fn slot_number(endpoint: EndpointAddress) -> usize
+    ensures { result ≡ slot_number endpoint.index endpoint.incoming }
 {
-    (index as usize) * 2 + incoming as usize
+    (endpoint.index as usize) * 2 + endpoint.incoming as usize
 }
 
 // Where an endpoint's slot stands among the sixteen. One that has none is given some other's place, so that a call can
 // look there without a test; it then refuses the endpoint, or leaves what stands there.
-pub fn slot_place(index: u8, incoming: bool) -> usize
-    ensures { result ≡ slot_place index incoming }
+pub fn slot_place(endpoint: EndpointAddress) -> usize
+    ensures { result ≡ slot_place endpoint.index endpoint.incoming }
 {
-    let number = slot_number(index, incoming);
-    number % 16
+    slot_number(endpoint) % 16
 }
 
 // Whether an endpoint has transfers.
@@ -54,18 +46,35 @@ pub fn is_data_endpoint(index: u8) -> bool
     (1 <= index) & (index <= 7)
 }
 
+// M; 0 where nothing is configured.
+pub fn slot_size(slot: Slot) -> u16
+    ensures { result ≡ slot_size slot }
+{
+    slot.config.map_or(0, |config| config.max_packet_size)
+}
+
+// The endpoint's own buffer; one of no bytes where nothing is configured.
+pub fn own_buffer(slot: Slot) -> Buffer
+    ensures { result ≡ own_buffer slot }
+{
+    match slot.config {
+        Some(config) => config.buffer,
+        None => Buffer {
+            address: 0,
+            size: 0,
+        },
+    }
+}
+
 // What a cut transfer adds to its tally; nothing where `cut` is clear.
 fn count_cut(tally: Tally, cut: bool, progress: u32) -> Tally
     ensures { result ≡ tally_cut tally cut progress }
 {
     if cut {
-        let cuts = std::num::wrapping_add_u32(tally.cut, 1);
-        let bytes = std::num::wrapping_add_u32(tally.bytes, progress);
         return Tally {
-            begun: tally.begun,
-            finished: tally.finished,
-            cut: cuts,
-            bytes: bytes,
+            cut: tally.cut.wrapping_add(1),
+            bytes: tally.bytes.wrapping_add(progress),
+            ..tally
         };
     }
     tally
@@ -75,20 +84,13 @@ fn count_cut(tally: Tally, cut: bool, progress: u32) -> Tally
 pub fn forget(slot: Slot, tallied: bool, enabled: bool, stalled: bool) -> Slot
     ensures { result ≡ forgotten slot tallied enabled stalled }
 {
-    let phase = slot.phase;
-    let idle = is_idle(phase);
-    let before = slot.tally;
-    let tally = count_cut(before, tallied & !idle, slot.transfer.progress);
-    let config = slot.config;
-    let transfer = slot.transfer;
+    let idle = is_idle(slot.phase);
     Slot {
-        configured: slot.configured,
-        config: config,
-        enabled: enabled,
-        stalled: stalled,
+        enabled,
+        stalled,
         phase: Phase::Idle,
-        transfer: transfer,
-        tally: tally,
+        tally: count_cut(slot.tally, tallied & !idle, slot.transfer.progress),
+        ..slot
     }
 }
 
@@ -106,16 +108,15 @@ pub fn slot_at(state: State, i: usize) -> Slot
     if i < 16 {
         return state.endpoints[i];
     }
-    state::fresh::fresh_slot()
+    fresh_slot()
 }
 
 // The state with another slot; unchanged where no slot has the number.
-pub fn with_slot(state: State, i: usize, slot: Slot) -> State
+pub fn with_slot(mut state: State, i: usize, slot: Slot) -> State
     ensures { result ≡ with_slot state i slot }
 {
-    let mut s = state;
     if i < 16 {
-        s.endpoints[i] = slot;
+        state.endpoints[i] = slot;
     }
-    s
+    state
 }

@@ -40,10 +40,9 @@ pub fn no_wakes() -> Wakes
 pub fn wake_slot(i: usize) -> Wakes
     ensures { result ≡ wake_slot i }
 {
-    let slots = slot_set(i);
     Wakes {
         bus: false,
-        slots: slots,
+        slots: slot_set(i),
     }
 }
 

@@ -1,13 +1,13 @@
 -- Refusal 26, clause by clause in document 01's words. A clause is true where its fault is absent.
 -- Assumes nothing.
-use Rattle.std.specs.Prelude.{ℕ, ◌+◌, ◌%◌, Bool, ◌&&◌, ◌||◌, not, List, [], ◌∷◌, ◌++◌, map, eqb, leb, ltb}
+use Rattle.std.specs.Prelude.{ℕ, ◌+◌, ◌%◌, Bool, true, ◌&&◌, ◌||◌, not, List, [], ◌∷◌, ◌++◌, map, eqb, leb, ltb, Option, Some, None}
 use Rattle.state.specs.declared.EndpointConfig.{EndpointConfig}
 use Rattle.state.specs.declared.Slot.{Slot}
 use Rattle.state.specs.declared.State.{State}
 use Rattle.state.specs.declared.Awaited.{Awaited}
 use Rattle.state.specs.declared.Events.{Events}
 use Rattle.state.specs.declared.Driver.{Driver}
-use Rattle.state_slots.specs.Slots.{idleb, busyb, slot_number}
+use Rattle.state_slots.specs.Slots.{idleb, busyb, slot_number, configured, slot_size}
 use Rattle.state.specs.Fresh.{slot_at, allocation_at}
 use Rattle.state.specs.Awaiting.{awaitingb, chain_readingb}
 use Rattle.state_events.specs.Bytes.{events_soundb}
@@ -38,25 +38,30 @@ ep0 i = ltb i 2
 abbrev pub is_in : ℕ → Bool
 is_in i = eqb (i % 2) 1
 
--- a configuration of slot i, where there is one
-abbrev pub config_clauses : List (ℕ → Bool → EndpointConfig → Bool)
+-- what is asked of a configuration, where there is one
+abbrev pub if_any : (EndpointConfig → Bool) → Option EndpointConfig → Bool
+if_any p None = true
+if_any p (Some k) = p k
+
+-- of a configuration of slot i
+abbrev pub config_clauses : List (ℕ → EndpointConfig → Bool)
 config_clauses =
     -- a configuration naming another slot
-    (λ i configured k. not configured || eqb (slot_number k.index k.incoming) i)
+    (λ i k. eqb (slot_number k.endpoint.index k.endpoint.incoming) i)
     -- M outside 1–1024
-    ∷ (λ i configured k. not configured || packet_size k.max_packet_size)
+    ∷ (λ i k. packet_size k.max_packet_size)
     -- own buffer outside RAM
-    ∷ (λ i configured k. not configured || in_ram k.buffer.address k.buffer.size)
+    ∷ (λ i k. in_ram k.buffer.address k.buffer.size)
     -- own buffer unaligned
-    ∷ (λ i configured k. not configured || aligned k.buffer.address)
+    ∷ (λ i k. aligned k.buffer.address)
     -- own buffer no positive multiple of M long
-    ∷ (λ i configured k. not configured || whole_packets k.buffer.size k.max_packet_size)
+    ∷ (λ i k. whole_packets k.buffer.size k.max_packet_size)
     ∷ []
 
 abbrev pub use_clauses : Bool → List (ℕ → Slot → Bool)
 use_clauses powered =
     -- data slot enabled without configuration
-    (λ i x. ep0 i || (not x.enabled || x.configured))
+    (λ i x. ep0 i || (not x.enabled || configured x.config))
     -- not idle while unpowered
     ∷ (λ i x. ep0 i || (idleb x.phase || powered))
     -- not idle while not enabled
@@ -81,15 +86,15 @@ transfer_clauses =
     -- busy transfer that isn't 4-aligned
     ∷ (λ i x. calm i x || aligned x.transfer.address)
     -- busy OUT transfer whose length isn't a positive multiple of M
-    ∷ (λ i x. calm_out i x || whole_packets x.transfer.length x.config.max_packet_size)
+    ∷ (λ i x. calm_out i x || whole_packets x.transfer.length (slot_size x))
     -- busy OUT transfer at its full length
     ∷ (λ i x. calm_out i x || not (eqb x.transfer.progress x.transfer.length))
     -- busy OUT transfer at no multiple of M
-    ∷ (λ i x. calm_out i x || multiple x.transfer.progress x.config.max_packet_size)
+    ∷ (λ i x. calm_out i x || multiple x.transfer.progress (slot_size x))
     ∷ []
 
 abbrev pub slot_clauses : Bool → List (ℕ → Slot → Bool)
-slot_clauses powered = use_clauses powered ++ map (λ (c : ℕ → Bool → EndpointConfig → Bool) i (x : Slot). c i x.configured x.config) config_clauses ++ transfer_clauses
+slot_clauses powered = use_clauses powered ++ map (λ (c : ℕ → EndpointConfig → Bool) i (x : Slot). if_any (c i) x.config) config_clauses ++ transfer_clauses
 
 abbrev pub awaited_clauses : Bool → Awaited → List Bool
 awaited_clauses powered a =
@@ -99,6 +104,11 @@ awaited_clauses powered a =
     ∷ (not (chain_readingb a.next) || (leb 1 a.endpoint && leb a.endpoint 7))
     ∷ []
 
+-- of an address that waits
+abbrev pub address_fits : Option ℕ → Bool
+address_fits None = true
+address_fits (Some a) = leb a 127
+
 abbrev pub state_clauses : State → Events → List Bool
 state_clauses s e =
     -- EP0 memory outside RAM (0 is sound until the first start)
@@ -106,7 +116,7 @@ state_clauses s e =
     -- SUSPEND with RESUME
     ∷ events_soundb e.events
     -- address above 127
-    ∷ (not s.has_address || leb s.address 127)
+    ∷ address_fits s.address
     -- sequence above 31
     ∷ leb s.tx_seq 31
     ∷ awaited_clauses s.powered s.awaited
@@ -132,8 +142,8 @@ memory_clauses memory capacity used =
     ∷ leb used capacity
     ∷ []
 
-abbrev pub of_allocations : Driver → (ℕ → Bool → EndpointConfig → Bool) → Bool
-of_allocations d c = every (λ i. c i (allocation_at d i).configured (allocation_at d i).config) 16
+abbrev pub of_allocations : Driver → (ℕ → EndpointConfig → Bool) → Bool
+of_allocations d c = every (λ i. if_any (c i) (allocation_at d i)) 16
 
 -- a driver's own clauses, and those of its configurations
 abbrev pub driver_clauses : Driver → List Bool

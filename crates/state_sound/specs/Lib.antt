@@ -1,5 +1,2 @@
-pub mod FaultLaws
 pub mod Clauses
 pub mod Sound
-pub mod SoundLaws
-pub mod FactLaws

@@ -1,11 +1,13 @@
 // Whether a state is sound (refusal 26). Each call that gets one asks it.
 #![tactic(auto)]
 
-ghost use Rattle.std.specs.Prelude.{◌≡◌, true};
-ghost use Rattle.state_sound.specs.Clauses.{in_ram, aligned, multiple, whole_packets};
+ghost use Rattle.std.specs.Prelude.{◌≡◌, Some};
+ghost use Rattle.state_sound.specs.Clauses.{in_ram, aligned, multiple, whole_packets, address_fits};
 ghost use Rattle.state_sound.specs.Sound.{soundb, configb, outb, busy_clausesb, slotb, awaitedb, ownb};
 
+use state::readings::{is_awaiting, is_chain_reading};
 use state::{Awaited, EndpointConfig, Events, Slot, State};
+use state_slots::{is_busy, is_idle, slot_number, slot_size};
 
 // Whether all of it lies in RAM. The sum is taken in 64 bits, so that it can't wrap.
 pub fn in_ram(address: u32, length: u32) -> bool
@@ -51,23 +53,24 @@ fn whole_packets(size: u32, m: u16, burst: u8) -> bool
 
 // A configuration of slot i.
 pub fn config_fits(i: usize, config: EndpointConfig) -> bool
-    ensures { result ≡ configb i true config }
+    ensures { result ≡ configb i (Some config) }
 {
-    let number = state_slots::slot_number(config.index, config.incoming);
-    if number == i {
-        let m = config.max_packet_size;
-        let address = config.buffer.address;
-        let size = config.buffer.size;
-        let inside = in_ram(address, size);
-        let even = is_aligned(address);
-        if ((1 <= m) & (m <= 1024)) & (inside & even) {
-            return whole_packets(size, m, config.max_burst);
-        }
+    let number = slot_number(config.endpoint);
+    if number != i {
+        return false;
+    }
+    let m = config.max_packet_size;
+    let buffer = config.buffer;
+    let inside = in_ram(buffer.address, buffer.size);
+    let even = is_aligned(buffer.address);
+    if ((1 <= m) & (m <= 1024)) & (inside & even) {
+        return whole_packets(buffer.size, m, config.max_burst);
     }
     false
 }
 
 // A busy OUT transfer ends at whole packets and has some to come.
+#[tactic(auto, unfolding(crate::specs::Sound::outb))]
 fn out_sound(progress: u32, length: u32, m: u32) -> bool
     ensures { result ≡ outb progress length m }
 {
@@ -85,7 +88,7 @@ fn busy_sound(i: usize, x: Slot) -> bool
     if i % 2 == 1 {
         return inside & even;
     }
-    let out = out_sound(t.progress, t.length, x.config.max_packet_size as u32);
+    let out = out_sound(t.progress, t.length, slot_size(x) as u32);
     inside & (even & out)
 }
 
@@ -94,58 +97,66 @@ fn busy_sound(i: usize, x: Slot) -> bool
 fn slot_sound(powered: bool, i: usize, x: Slot) -> bool
     ensures { result ≡ slotb powered i x }
 {
-    let phase = x.phase;
-    if x.configured {
-        let fits = config_fits(i, x.config);
-        if !fits {
-            return false;
-        }
+    let idle = is_idle(x.phase);
+    let Some(config) = x.config else {
         if i < 2 {
             return true;
         }
-        if x.transfer.length < x.transfer.progress {
-            return false;
-        }
-        let idle = state_slots::is_idle(phase);
-        if idle {
-            return true;
-        }
-        if (powered & x.enabled) & !x.stalled {
-            let busy = state_slots::is_busy(phase);
-            if busy {
-                return busy_sound(i, x);
-            }
-            return true;
-        }
+        return (idle & !x.enabled) & (x.transfer.progress <= x.transfer.length);
+    };
+    let fits = config_fits(i, config);
+    if !fits {
         return false;
     }
     if i < 2 {
         return true;
     }
-    let idle = state_slots::is_idle(phase);
-    (idle & !x.enabled) & (x.transfer.progress <= x.transfer.length)
+    if x.transfer.length < x.transfer.progress {
+        return false;
+    }
+    if idle {
+        return true;
+    }
+    if (powered & x.enabled) & !x.stalled {
+        if is_busy(x.phase) {
+            return busy_sound(i, x);
+        }
+        return true;
+    }
+    false
 }
 
 // The reading that an interrupt awaits.
+#[tactic(auto, unfolding(crate::specs::Sound::awaitedb))]
 fn awaited_sound(powered: bool, awaited: Awaited) -> bool
     ensures { result ≡ awaitedb powered awaited }
 {
-    let next = awaited.next;
-    let awaiting = state::readings::is_awaiting(next);
-    let chain = state::readings::is_chain_reading(next);
+    let awaiting = is_awaiting(awaited.next);
+    let chain = is_chain_reading(awaited.next);
     let e = awaited.endpoint;
     (!awaiting | powered) & (!chain | ((1 <= e) & (e <= 7)))
 }
 
+// The device address that waits has 7 bits.
+fn address_fits(address: Option<u8>) -> bool
+    ensures { result ≡ address_fits address }
+{
+    match address {
+        Some(address) => address <= 127,
+        None => true,
+    }
+}
+
 // The state apart from its slots.
+#[tactic(auto, unfolding(crate::specs::Sound::ownb, crate::specs::Sound::awaitedb))]
 fn own_sound(state: State, events: Events) -> bool
     ensures { result ≡ ownb state events }
 {
     let inside = in_ram(state.ep0_address, 512);
     let apart = state_events::events_sound(events);
     let asked = awaited_sound(state.powered, state.awaited);
-    ((state.ep0_address == 0) | inside)
-        & (apart & ((!state.has_address | (state.address <= 127)) & ((state.tx_seq <= 31) & asked)))
+    let fits = address_fits(state.address);
+    ((state.ep0_address == 0) | inside) & (apart & (fits & ((state.tx_seq <= 31) & asked)))
 }
 
 pub fn sound(state: State, events: Events) -> bool
@@ -155,13 +166,11 @@ pub fn sound(state: State, events: Events) -> bool
     if !own {
         return false;
     }
-    let mut i: usize = 0;
-    while i < 16 {
+    for i in 0..16 {
         let good = slot_sound(state.powered, i, state.endpoints[i]);
         if !good {
             return false;
         }
-        i = i + 1;
     }
     true
 }

@@ -2,49 +2,67 @@
 #![tactic(auto)]
 
 use state::{Refusal, Wakes};
+use state_slots::waking::no_wakes;
+use tool_print::Line;
 
 pub fn answer(rt: &impl Print, number: u32, value: u32, wakes: Wakes) {
-    let mut text = [0u8; 60];
-    let a = tool_print::put(&mut text, 0, b"answer");
-    let b = tool_cells::put_cell(&mut text, a, number);
-    let c = tool_cells::put_cell(&mut text, b, value);
-    let d = tool_cells::put_cell(&mut text, c, wakes.bus as u32);
-    let e = tool_cells::put_cell(&mut text, d, wakes.slots as u32);
-    let end = tool_print::put(&mut text, e, b"\n");
-    let _ = rt.write_all(&text[0..end]);
+    let mut line = Line::<60>::new();
+    line.text(b"answer");
+    line.cell(number);
+    line.cell(value);
+    line.cell(wakes.bus as u32);
+    line.cell(wakes.slots as u32);
+    line.text(b"\n");
+    line.write(rt);
+}
+
+// A value with whom the call wakes, or a refusal.
+pub fn told(rt: &impl Print, said: Result<u32, Refusal>, wakes: Wakes) {
+    match said {
+        Ok(value) => answer(rt, 0, value, wakes),
+        Err(refusal) => refused(rt, refusal),
+    }
+}
+
+// The same of a take; `None`: it has to wait.
+pub fn taken(rt: &impl Print, said: Result<Option<u32>, Refusal>, wakes: Wakes) {
+    match said {
+        Ok(Some(bytes)) => answer(rt, 0, bytes, wakes),
+        Ok(None) => busy(rt),
+        Err(refusal) => refused(rt, refusal),
+    }
 }
 
 // A value, and nobody to wake.
 pub fn done(rt: &impl Print, value: u32) {
-    let wakes = state_slots::waking::no_wakes();
-    answer(rt, 0, value, wakes);
+    answer(rt, 0, value, no_wakes());
 }
 
 pub fn refused(rt: &impl Print, refusal: Refusal) {
-    let number = state::refusals::refusal_number(refusal);
-    let wakes = state_slots::waking::no_wakes();
-    answer(rt, number, 0, wakes);
+    answer(rt, refusal.into(), 0, no_wakes());
 }
 
 // A take that has to wait.
 pub fn busy(rt: &impl Print) {
-    tool_cells::text(rt, b"answer\tbusy\t0\t0\t0\n");
+    let _ = rt.write_all(b"answer\tbusy\t0\t0\t0\n");
 }
 
 // A send or receive that went on to its next piece.
 pub fn more(rt: &impl Print, wakes: Wakes) {
-    tool_cells::text(rt, b"answer\tmore\t0");
-    tool_cells::flag(rt, wakes.bus);
-    tool_cells::number(rt, wakes.slots as u32);
-    tool_cells::text(rt, b"\n");
+    let mut line = Line::<40>::new();
+    line.text(b"answer\tmore\t0");
+    line.cell(wakes.bus as u32);
+    line.cell(wakes.slots as u32);
+    line.text(b"\n");
+    line.write(rt);
 }
 
 // An allocation that is refused: the Rust has one error for its five numbers.
 pub fn not_allocated(rt: &impl Print) {
-    tool_cells::text(rt, b"answer\trefused\t0\t0\t0\n");
+    let _ = rt.write_all(b"answer\trefused\t0\t0\t0\n");
 }
 
 // A line that can't be read; nothing is done.
 pub fn unfit(rt: &impl Print) {
-    tool_cells::text(rt, b"unfit\n");
+    let _ = rt.write_all(b"unfit\n");
 }

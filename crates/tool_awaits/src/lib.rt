@@ -1,36 +1,36 @@
 // The line that says which reading is awaited.
 #![tactic(auto)]
 
+ghost use Rattle.std.specs.Prelude.{◌≤◌, length};
+
 use state::Awaiting;
-use tool_cells::text;
+use tool_print::Line;
 
-pub fn awaits(rt: &impl Print, next: Awaiting) {
-    text(rt, b"awaits\t");
-    of_the_link(rt, next);
-    text(rt, b"\n");
+pub fn awaits(rt: &impl Print, next: Option<Awaiting>) {
+    let mut line = Line::<30>::new();
+    line.text(b"awaits\t");
+    line.text(name(next));
+    line.text(b"\n");
+    line.write(rt);
 }
 
-// The link's readings; the status is one, at whichever place it is asked.
-fn of_the_link(rt: &impl Print, next: Awaiting) {
+// The link's status is one reading, at whichever place it is asked.
+fn name(next: Option<Awaiting>) -> &'static [u8]
+    ensures { length result.now ≤ 15 }
+{
     match next {
-        Awaiting::LinkFlags => text(rt, b"link_flags"),
-        Awaiting::LinkStatus | Awaiting::TermPresStatus | Awaiting::WarmResetStatus => {
-            text(rt, b"link_status")
+        None => b"nothing",
+        Some(Awaiting::LinkFlags) => b"link_flags",
+        Some(Awaiting::LinkStatus | Awaiting::TermPresStatus | Awaiting::WarmResetStatus) => {
+            b"link_status"
         }
-        Awaiting::PortCapability => text(rt, b"port_capability"),
-        Awaiting::MessageWord => text(rt, b"message_word"),
-        _ => of_a_transfer(rt, next),
-    }
-}
-
-fn of_a_transfer(rt: &impl Print, next: Awaiting) {
-    match next {
-        Awaiting::TransferStatus => text(rt, b"transfer_status"),
-        Awaiting::SetupBytes => text(rt, b"setup_bytes"),
-        Awaiting::Ep0Length => text(rt, b"ep0_length"),
-        Awaiting::Ep0Sequence => text(rt, b"ep0_sequence"),
-        Awaiting::ChainPackets => text(rt, b"chain_packets"),
-        Awaiting::LastLength => text(rt, b"last_length"),
-        _ => text(rt, b"nothing"),
+        Some(Awaiting::PortCapability) => b"port_capability",
+        Some(Awaiting::MessageWord) => b"message_word",
+        Some(Awaiting::TransferStatus) => b"transfer_status",
+        Some(Awaiting::SetupBytes) => b"setup_bytes",
+        Some(Awaiting::Ep0Length) => b"ep0_length",
+        Some(Awaiting::Ep0Sequence) => b"ep0_sequence",
+        Some(Awaiting::ChainPackets) => b"chain_packets",
+        Some(Awaiting::LastLength) => b"last_length",
     }
 }

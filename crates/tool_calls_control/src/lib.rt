@@ -1,106 +1,74 @@
 // A SETUP fetched, stages of endpoint 0 taken, and the generation set.
 #![tactic(auto)]
 
-use control_setup::SetupAnswer;
-use state::{Setup, Wakes};
+use control_setup::Fetched;
+use state::State;
+use state_call::Answered;
+use tool_print::Line;
 use tool_scripts::number;
-use tool_words::Word;
-use transfer_take::{TakeAnswer, TakeResult};
 use world::World;
 
-// A word of another group is unfit here.
-pub fn call(rt: &impl Print, world: World, word: Word, line: &[u8]) -> World {
-    match word {
-        Word::Setup => setup(rt, world),
-        Word::TakeOut => take_out(rt, world, line),
-        Word::TakeIn => take_in(rt, world, line),
-        Word::Generation => generation(rt, world, line),
-        _ => {
-            tool_answers::unfit(rt);
-            world
-        }
+pub fn setup(rt: &impl Print, world: World) -> World {
+    let called = control_setup::setup(world.state, world.events);
+    if let Ok(Some(fetched)) = called.answer {
+        found(rt, fetched);
     }
+    let said = called.answer.map(|fetched| fetched.is_some() as u32);
+    tool_answers::told(rt, said, called.wakes);
+    world.with_state(called.state)
 }
 
-fn setup(rt: &impl Print, world: World) -> World {
-    let state = world.state;
-    let events = world.events;
-    let fetched = control_setup::setup(state, events);
-    let answer = fetched.answer;
-    let wakes = fetched.wakes;
-    match answer {
-        SetupAnswer::Refused(refusal) => tool_answers::refused(rt, refusal),
-        SetupAnswer::Nothing => tool_answers::answer(rt, 0, 0, wakes),
-        SetupAnswer::Fetched { setup, generation } => found(rt, setup, generation, wakes),
+fn found(rt: &impl Print, fetched: Fetched) {
+    let mut line = Line::<110>::new();
+    line.text(b"setup");
+    for byte in fetched.setup {
+        line.cell(byte as u32);
     }
-    let after = fetched.state;
-    world::with_state(world, after)
-}
-
-fn found(rt: &impl Print, setup: Setup, generation: u32, wakes: Wakes) {
-    tool_cells::text(rt, b"setup");
-    tool_cells::number(rt, setup.b0 as u32);
-    tool_cells::number(rt, setup.b1 as u32);
-    tool_cells::number(rt, setup.b2 as u32);
-    tool_cells::number(rt, setup.b3 as u32);
-    tool_cells::number(rt, setup.b4 as u32);
-    tool_cells::number(rt, setup.b5 as u32);
-    tool_cells::number(rt, setup.b6 as u32);
-    tool_cells::number(rt, setup.b7 as u32);
-    tool_cells::number(rt, generation);
-    tool_cells::text(rt, b"\n");
-    tool_answers::answer(rt, 0, 1, wakes);
+    line.cell(fetched.generation);
+    line.text(b"\n");
+    line.write(rt);
 }
 
 // A stage has 512 bytes at most, so that more room changes nothing.
-fn take_out(rt: &impl Print, world: World, line: &[u8]) -> World {
-    let generation = number(line, 0);
-    let address = number(line, 1);
-    let length = number(line, 2);
-    let pattern = number(line, 3);
-    let room = base::min(length, 512) as usize;
+pub fn take_out(rt: &impl Print, world: World, line: &[u8]) -> World {
+    let room = number(line, 2).min(512) as usize;
     let mut out = [0u8; 512];
     let mut ep0 = [0u8; 512];
-    tool_patterns::fill(&mut ep0, pattern);
-    let state = world.state;
-    let events = world.events;
-    let at = state.ep0_address;
-    let result = control_take_out::take_out(state, events, generation, &mut out[0..room], &ep0, at);
-    let answer = result.answer;
-    if let TakeAnswer::Taken(received) = answer {
-        tool_copies::copied(rt, at, address, &out, received);
+    tool_patterns::fill(&mut ep0, number(line, 3));
+    let at = world.state.ep0_address;
+    let result = control_take_out::take_out(
+        world.state,
+        world.events,
+        number(line, 0),
+        &mut out[..room],
+        &ep0,
+        at,
+    );
+    if let Ok(Some(received)) = result.answer {
+        tool_copies::copied(rt, at, number(line, 1), &out, received);
     }
     taken(rt, world, result)
 }
 
-fn take_in(rt: &impl Print, world: World, line: &[u8]) -> World {
-    let generation = number(line, 0);
-    let state = world.state;
-    let events = world.events;
-    let result = control_take::take_in(state, events, generation);
+pub fn take_in(rt: &impl Print, world: World, line: &[u8]) -> World {
+    let result = control_take::take_in(world.state, world.events, number(line, 0));
     taken(rt, world, result)
 }
 
-fn taken(rt: &impl Print, world: World, res: TakeResult) -> World {
-    let answer = res.answer;
-    let wakes = res.wakes;
-    match answer {
-        TakeAnswer::Refused(refusal) => tool_answers::refused(rt, refusal),
-        TakeAnswer::Busy => tool_answers::busy(rt),
-        TakeAnswer::Taken(bytes) => tool_answers::answer(rt, 0, bytes, wakes),
-    }
-    let after = res.state;
-    world::with_state(world, after)
+fn taken(rt: &impl Print, world: World, called: Answered<Option<u32>>) -> World {
+    tool_answers::taken(rt, called.answer, called.wakes);
+    world.with_state(called.state)
 }
 
 // No call of the driver. Only without power can the Rust be asked.
-fn generation(rt: &impl Print, world: World, line: &[u8]) -> World {
-    let mut state = world.state;
-    if state.powered {
+pub fn generation(rt: &impl Print, world: World, line: &[u8]) -> World {
+    if world.state.powered {
         tool_answers::unfit(rt);
         return world;
     }
-    state.control_generation = number(line, 0);
     tool_answers::done(rt, 0);
-    world::with_state(world, state)
+    world.with_state(State {
+        control_generation: number(line, 0),
+        ..world.state
+    })
 }

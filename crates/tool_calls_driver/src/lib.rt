@@ -3,61 +3,33 @@
 
 mod request;
 
-use driver_allocate::AllocateAnswer;
-use driver_new::NewAnswer;
-use tool_words::Word;
+use driver_allocate::allocate as allocate_endpoint;
+use tool_scripts::{flag, number};
 use world::World;
 
-// A word of another group is unfit here.
-pub fn call(rt: &impl Print, world: World, word: Word, line: &[u8]) -> World {
-    match word {
-        Word::Driver => driver(rt, world, line),
-        Word::Allocate => allocate(rt, world, line),
-        _ => {
-            tool_answers::unfit(rt);
-            world
-        }
-    }
-}
-
 // Where creation is refused, the driver in the making stays.
-fn driver(rt: &impl Print, world: World, line: &[u8]) -> World {
-    let address = tool_scripts::number(line, 0);
-    let length = tool_scripts::number(line, 1);
-    let made = driver_new::new(address, length);
-    let answer = made.answer;
-    match answer {
-        NewAnswer::Refused(refusal) => {
+pub fn driver(rt: &impl Print, world: World, line: &[u8]) -> World {
+    match driver_new::new(number(line, 0), number(line, 1)) {
+        Ok(driver) => {
+            tool_answers::done(rt, 0);
+            world.with_driver(driver)
+        }
+        Err(refusal) => {
             tool_answers::refused(rt, refusal);
             world
         }
-        NewAnswer::Made => {
-            tool_answers::done(rt, 0);
-            let driver = made.driver;
-            world::with_driver(world, driver)
-        }
     }
 }
 
-fn allocate(rt: &impl Print, world: World, line: &[u8]) -> World {
-    let fits = request::fits(line);
-    if fits {
-        return allocate_endpoint(rt, world, line);
+pub fn allocate(rt: &impl Print, world: World, line: &[u8]) -> World {
+    let Some(request) = request::read(line) else {
+        tool_answers::unfit(rt);
+        return world;
+    };
+    let mut driver = world.driver;
+    match allocate_endpoint(&mut driver, flag(line, 0), request) {
+        Ok(config) => tool_answers::done(rt, config.buffer.address),
+        Err(_) => tool_answers::not_allocated(rt),
     }
-    tool_answers::unfit(rt);
-    world
-}
-
-fn allocate_endpoint(rt: &impl Print, world: World, line: &[u8]) -> World {
-    let incoming = tool_scripts::flag(line, 0);
-    let request = request::read(line);
-    let driver = world.driver;
-    let allocated = driver_allocate::allocate(driver, incoming, request);
-    let answer = allocated.answer;
-    match answer {
-        AllocateAnswer::Refused(refusal) => tool_answers::not_allocated(rt),
-        AllocateAnswer::Endpoint(config) => tool_answers::done(rt, config.buffer.address),
-    }
-    let after = allocated.driver;
-    world::with_driver(world, after)
+    world.with_driver(driver)
 }

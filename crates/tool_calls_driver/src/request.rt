@@ -1,52 +1,44 @@
 // What an allocation is asked with.
-use state::{EndpointRequest, EndpointType};
+use state::{EndpointAddress, EndpointRequest, EndpointType};
+use tool_arguments::{byte, half};
+use tool_scripts::{flag, number};
 
-// Whether the numbers of a line fit.
-pub fn fits(line: &[u8]) -> bool {
-    let endpoint = tool_scripts::number(line, 3);
-    let kind = tool_scripts::number(line, 4);
-    let size = tool_scripts::number(line, 5);
-    let interval = tool_scripts::number(line, 6);
-    let burst = tool_scripts::number(line, 7);
-    let streams = tool_scripts::number(line, 8);
-    let mult = tool_scripts::number(line, 9);
-    let bytes = (interval < 256) & (burst < 256) & (mult < 256);
-    (endpoint < 16) & (kind < 4) & (size < 65536) & (streams < 65536) & bytes
+// The request of a line, if its numbers fit.
+pub fn read(line: &[u8]) -> Option<EndpointRequest> {
+    let bytes = (number(line, 6) < 256) & (number(line, 7) < 256) & (number(line, 9) < 256);
+    let halves = (number(line, 5) < 65536) & (number(line, 8) < 65536);
+    if !(bytes & halves) {
+        return None;
+    }
+    Some(EndpointRequest {
+        endpoint: asked(line)?,
+        ep_type: kind(number(line, 4))?,
+        max_packet_size: half(line, 5),
+        interval_ms: byte(line, 6),
+        max_burst: byte(line, 7),
+        max_streams: half(line, 8),
+        mult: byte(line, 9),
+    })
 }
 
-pub fn read(line: &[u8]) -> EndpointRequest {
-    let requested = tool_scripts::flag(line, 1);
-    let incoming = tool_scripts::flag(line, 2);
-    let endpoint = tool_arguments::byte(line, 3);
-    let number = tool_scripts::number(line, 4);
-    let kind = kind_of(number);
-    let size = tool_arguments::half(line, 5);
-    let interval = tool_arguments::byte(line, 6);
-    let burst = tool_arguments::byte(line, 7);
-    let streams = tool_arguments::half(line, 8);
-    let mult = tool_arguments::byte(line, 9);
-    EndpointRequest {
-        requested: requested,
-        index: endpoint,
-        incoming: incoming,
-        ep_type: kind,
-        max_packet_size: size,
-        interval_ms: interval,
-        max_burst: burst,
-        max_streams: streams,
-        mult: mult,
+// The address that is asked for, if one is; its number fits in either case.
+fn asked(line: &[u8]) -> Option<Option<EndpointAddress>> {
+    if number(line, 3) > 15 {
+        return None;
     }
+    let address = EndpointAddress {
+        index: byte(line, 3),
+        incoming: flag(line, 2),
+    };
+    Some(flag(line, 1).then_some(address))
 }
 
-fn kind_of(number: u32) -> EndpointType {
-    if number == 0 {
-        return EndpointType::Control;
+fn kind(number: u32) -> Option<EndpointType> {
+    match number {
+        0 => Some(EndpointType::Control),
+        1 => Some(EndpointType::Isochronous),
+        2 => Some(EndpointType::Bulk),
+        3 => Some(EndpointType::Interrupt),
+        _ => None,
     }
-    if number == 1 {
-        return EndpointType::Isochronous;
-    }
-    if number == 2 {
-        return EndpointType::Bulk;
-    }
-    EndpointType::Interrupt
 }

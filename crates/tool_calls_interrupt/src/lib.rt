@@ -1,66 +1,37 @@
-// An interrupt of a script, by its readings or as a whole report.
+// An interrupt of a script, by its readings.
 #![tactic(auto)]
 
-use interrupt_asks::{InterruptAnswer, InterruptResult};
-use state::Wakes;
+use interrupt_asks::InterruptResult;
 use tool_words::Word;
 use world::World;
 
-pub fn call(
+pub fn begin(rt: &impl Print, list: &mut [u32; 640], world: World) -> World {
+    let result = interrupt_begin::interrupt(list, world.state, world.events);
+    told(rt, list, world, result)
+}
+
+// A word that is no reading's, or a line whose numbers can't be read, is unfit.
+pub fn answer(
     rt: &impl Print,
     list: &mut [u32; 640],
     world: World,
     word: Word,
     line: &[u8],
 ) -> World {
-    match word {
-        Word::Interrupt => begin(rt, list, world),
-        Word::SetupBytes => setup(rt, list, world, word, line),
-        _ => answer(rt, list, world, word, line),
+    let Some(reading) = tool_readings::reading(word, line) else {
+        tool_answers::unfit(rt);
+        return world;
+    };
+    let result = interrupt::answer(list, world.state, world.events, reading);
+    told(rt, list, world, result)
+}
+
+fn told(rt: &impl Print, list: &[u32; 640], world: World, called: InterruptResult) -> World {
+    tool_print::operations(rt, list, called.end);
+    match called.answer {
+        Ok(None) => tool_answers::answer(rt, 0, 0, called.wakes),
+        Ok(next) => tool_awaits::awaits(rt, next),
+        Err(refusal) => tool_answers::refused(rt, refusal),
     }
-}
-
-fn begin(rt: &impl Print, list: &mut [u32; 640], world: World) -> World {
-    let state = world.state;
-    let events = world.events;
-    let result = interrupt_begin::interrupt(list, state, events);
-    tool_print::operations(rt, list, result.end);
-    told(rt, world, result)
-}
-
-// A line with numbers that are no bytes can't be read.
-fn setup(rt: &impl Print, list: &mut [u32; 640], world: World, word: Word, line: &[u8]) -> World {
-    let fit = tool_readings::are_bytes(line);
-    if fit {
-        return answer(rt, list, world, word, line);
-    }
-    tool_answers::unfit(rt);
-    world
-}
-
-fn answer(rt: &impl Print, list: &mut [u32; 640], world: World, word: Word, line: &[u8]) -> World {
-    let reading = tool_readings::reading(word, line);
-    let state = world.state;
-    let events = world.events;
-    let result = interrupt::answer(list, state, events, reading);
-    tool_print::operations(rt, list, result.end);
-    told(rt, world, result)
-}
-
-fn told(rt: &impl Print, world: World, res: InterruptResult) -> World {
-    let answer = res.answer;
-    let wakes = res.wakes;
-    tell(rt, answer, wakes);
-    let state = res.state;
-    let events = res.events;
-    let after = world::with_state(world, state);
-    world::with_events(after, events)
-}
-
-fn tell(rt: &impl Print, answer: InterruptAnswer, wakes: Wakes) {
-    match answer {
-        InterruptAnswer::Refused(refusal) => tool_answers::refused(rt, refusal),
-        InterruptAnswer::Awaits(next) => tool_awaits::awaits(rt, next),
-        InterruptAnswer::Ended => tool_answers::answer(rt, 0, 0, wakes),
-    }
+    world.with_state(called.state).with_events(called.events)
 }

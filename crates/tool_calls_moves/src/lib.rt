@@ -1,256 +1,193 @@
 // Sends and receives: a piece begun; or taken, and the next one begun.
 #![tactic(auto)]
 
-use endpoint_answer::{MoveAnswer, MoveResult, MovedResult};
-use state::{Events, State, Transfer, Wakes};
+use endpoint_answer::Move;
+use endpoint_choice::MoveRequest;
+use endpoint_parts::part;
+use state::{Refusal, Slot, Transfer, Wakes};
+use state_call::{Answered, Listed};
+use state_slots::{own_buffer, slot_at, slot_place};
+use tool_copies::copied;
 use tool_moves::asked::Asked;
 use tool_moves::{asked, pieces};
-use tool_words::Word;
+use tool_print::Line;
 use world::World;
 
-// A word of another group is unfit here.
-pub fn call(
-    rt: &impl Print,
-    list: &mut [u32; 640],
-    world: World,
-    word: Word,
-    line: &[u8],
-) -> World {
-    let fits = asked::fits(line);
-    if !fits {
+// A piece is begun.
+pub fn begin(rt: &impl Print, list: &mut [u32; 640], world: World, line: &[u8]) -> World {
+    let Some(asked) = asked::read(line) else {
         tool_answers::unfit(rt);
         return world;
-    }
-    let asked = asked::read(line);
-    match word {
-        Word::Move => begin(rt, list, world, asked),
-        Word::Next => next(rt, list, world, asked),
-        _ => {
-            tool_answers::unfit(rt);
-            world
-        }
-    }
+    };
+    let result = begun(rt, list, world, asked);
+    told(rt, result.answer, asked, result.wakes);
+    world.with_state(result.state)
 }
 
-fn begin(rt: &impl Print, list: &mut [u32; 640], world: World, asked: Asked) -> World {
-    let state = world.state;
-    let events = world.events;
-    let result = begun(rt, list, state, events, asked);
-    let answer = result.answer;
-    let wakes = result.wakes;
-    told(rt, answer, asked.incoming, wakes);
-    let after = result.state;
-    world::with_state(world, after)
-}
-
-fn next(rt: &impl Print, list: &mut [u32; 640], world: World, asked: Asked) -> World {
-    let state = world.state;
-    let events = world.events;
-    let result = taken(rt, state, events, asked);
-    let answer = result.answer;
-    let wakes = result.wakes;
-    let after = result.state;
-    let went = world::with_state(world, after);
-    if let MoveAnswer::More(position) = answer {
-        return go_on(rt, list, went, asked::onward(asked, position));
+// A piece is taken, and the next one begun.
+pub fn next(rt: &impl Print, list: &mut [u32; 640], world: World, line: &[u8]) -> World {
+    let Some(asked) = asked::read(line) else {
+        tool_answers::unfit(rt);
+        return world;
+    };
+    let result = taken(rt, world, asked);
+    let went = world.with_state(result.state);
+    if let Ok(Move::More(position)) = result.answer {
+        return go_on(rt, list, went, asked.onward(position));
     }
-    told(rt, answer, asked.incoming, wakes);
+    told(rt, result.answer, asked, result.wakes);
     went
 }
 
 // The next piece is begun, which is what `more` says.
 fn go_on(rt: &impl Print, list: &mut [u32; 640], world: World, asked: Asked) -> World {
-    let state = world.state;
-    let events = world.events;
-    let result = begun(rt, list, state, events, asked);
-    let answer = result.answer;
-    let wakes = result.wakes;
-    if let MoveAnswer::Begun(_) = answer {
-        tool_answers::more(rt, wakes);
+    let result = begun(rt, list, world, asked);
+    if pieces::is_begun(result.answer) {
+        tool_answers::more(rt, result.wakes);
     } else {
-        told(rt, answer, asked.incoming, wakes);
+        told(rt, result.answer, asked, result.wakes);
     }
-    let after = result.state;
-    world::with_state(world, after)
+    world.with_state(result.state)
 }
 
 // The answer's line. Only a receive gives bytes.
-fn told(rt: &impl Print, answer: MoveAnswer, incoming: bool, wakes: Wakes) {
+fn told(rt: &impl Print, answer: Result<Move, Refusal>, asked: Asked, wakes: Wakes) {
     match answer {
-        MoveAnswer::Refused(refusal) => tool_answers::refused(rt, refusal),
-        MoveAnswer::Begun(_) => tool_answers::answer(rt, 0, 0, wakes),
-        MoveAnswer::Busy => tool_answers::busy(rt),
-        MoveAnswer::More(_) => tool_answers::more(rt, wakes),
-        MoveAnswer::Ended(total) => {
-            let value = pieces::given(incoming, total);
+        Ok(Move::Begun(_)) => tool_answers::answer(rt, 0, 0, wakes),
+        Ok(Move::Busy) => tool_answers::busy(rt),
+        Ok(Move::More(_)) => tool_answers::more(rt, wakes),
+        Ok(Move::Ended(total)) => {
+            let value = pieces::given(asked.endpoint.incoming, total);
             tool_answers::answer(rt, 0, value, wakes);
         }
+        Err(refusal) => tool_answers::refused(rt, refusal),
     }
 }
 
-fn begun(
-    rt: &impl Print,
-    list: &mut [u32; 640],
-    state: State,
-    events: Events,
-    asked: Asked,
-) -> MoveResult {
-    if asked.incoming {
-        return send(rt, list, state, events, asked);
+fn begun(rt: &impl Print, list: &mut [u32; 640], world: World, asked: Asked) -> Listed<Move> {
+    if asked.endpoint.incoming {
+        send(rt, list, world, asked)
+    } else {
+        receive(rt, list, world, asked)
     }
-    receive(rt, list, state, events, asked)
 }
 
-fn taken(rt: &impl Print, state: State, events: Events, asked: Asked) -> MovedResult {
-    if asked.incoming {
-        return sent(state, events, asked);
+fn taken(rt: &impl Print, world: World, asked: Asked) -> Answered<Move> {
+    if asked.endpoint.incoming {
+        sent(world, asked)
+    } else {
+        received(rt, world, asked)
     }
-    received(rt, state, events, asked)
+}
+
+fn slot_of(world: World, asked: Asked) -> Slot {
+    slot_at(world.state, slot_place(asked.endpoint))
+}
+
+fn request(asked: Asked, slot: Slot) -> MoveRequest {
+    MoveRequest {
+        single: asked.single,
+        needs_zlp: asked.flag,
+        address: asked.address,
+        own_address: own_buffer(slot).address,
+        position: asked.position as usize,
+    }
 }
 
 // A piece of a send is begun; printed are its copy, its records and itself.
-fn send(
-    rt: &impl Print,
-    list: &mut [u32; 640],
-    state: State,
-    events: Events,
-    asked: Asked,
-) -> MoveResult {
-    let i = state_slots::slot_place(asked.index, true);
-    let slot = state_slots::slot_at(state, i);
+fn send(rt: &impl Print, list: &mut [u32; 640], world: World, asked: Asked) -> Listed<Move> {
+    let slot = slot_of(world, asked);
     let mut bytes = [0u8; 65536];
-    let length = asked::count(asked);
     tool_patterns::fill(&mut bytes, asked.pattern);
     let mut own = [0u8; 16384];
-    let size = pieces::own_size(slot);
-    let at = slot.config.buffer.address;
     let result = endpoint_send::send(
         list,
-        state,
-        events,
-        asked.index,
-        asked.single,
-        asked.flag,
-        &bytes[0..length],
-        asked.address,
-        &mut own[0..size],
-        at,
-        asked.position as usize,
+        world.state,
+        world.events,
+        asked.endpoint.index,
+        request(asked, slot),
+        &bytes[..asked.count()],
+        &mut own[..pieces::own_size(slot)],
     );
-    let after = result.state;
-    let answer = result.answer;
-    let begun = state_slots::slot_at(after, i);
-    let count = pieces::handed_over(answer, begun);
-    let from = pieces::place(asked);
-    copied_in(rt, from, at, &own, count);
+    let begun = slot_of(world.with_state(result.state), asked);
+    let count = pieces::handed_over(result.answer, begun);
+    let (from, to) = (pieces::place(asked), own_buffer(slot).address);
+    copied(rt, from, to, &own, count);
     tool_print::operations(rt, list, result.end);
-    let transfer = begun.transfer;
-    piece(rt, answer, transfer);
+    piece(rt, result.answer, begun.transfer);
     result
 }
 
 // A piece of a receive is begun.
-fn receive(
-    rt: &impl Print,
-    list: &mut [u32; 640],
-    state: State,
-    events: Events,
-    asked: Asked,
-) -> MoveResult {
-    let i = state_slots::slot_place(asked.index, false);
-    let slot = state_slots::slot_at(state, i);
+fn receive(rt: &impl Print, list: &mut [u32; 640], world: World, asked: Asked) -> Listed<Move> {
+    let slot = slot_of(world, asked);
     let bytes = [0u8; 65536];
-    let length = asked::count(asked);
     let own = [0u8; 16384];
-    let size = pieces::own_size(slot);
     let result = endpoint_receive::receive(
         list,
-        state,
-        events,
-        asked.index,
-        asked.single,
-        &bytes[0..length],
-        asked.address,
-        &own[0..size],
-        slot.config.buffer.address,
-        asked.position as usize,
+        world.state,
+        world.events,
+        asked.endpoint.index,
+        request(asked, slot),
+        &bytes[..asked.count()],
+        &own[..pieces::own_size(slot)],
     );
     tool_print::operations(rt, list, result.end);
-    let after = result.state;
-    let answer = result.answer;
-    let begun = state_slots::slot_at(after, i);
-    let transfer = begun.transfer;
-    piece(rt, answer, transfer);
+    let begun = slot_of(world.with_state(result.state), asked);
+    piece(rt, result.answer, begun.transfer);
     result
 }
 
 // A piece of a send is taken. No byte of it is asked for.
-fn sent(state: State, events: Events, asked: Asked) -> MovedResult {
-    let i = state_slots::slot_place(asked.index, true);
-    let slot = state_slots::slot_at(state, i);
+fn sent(world: World, asked: Asked) -> Answered<Move> {
+    let slot = slot_of(world, asked);
     let bytes = [0u8; 65536];
-    let length = asked::count(asked);
     let own = [0u8; 16384];
-    let size = pieces::own_size(slot);
     endpoint_sent::sent(
-        state,
-        events,
-        asked.index,
-        asked.single,
-        asked.flag,
-        &bytes[0..length],
-        &own[0..size],
-        slot.config.buffer.address,
-        asked.position as usize,
+        world.state,
+        world.events,
+        asked.endpoint.index,
+        request(asked, slot),
+        &bytes[..asked.count()],
+        &own[..pieces::own_size(slot)],
     )
 }
 
 // A piece of a receive is taken; the own buffer holds the pattern, and the copy out of it is printed.
-fn received(rt: &impl Print, state: State, events: Events, asked: Asked) -> MovedResult {
-    let i = state_slots::slot_place(asked.index, false);
-    let slot = state_slots::slot_at(state, i);
+fn received(rt: &impl Print, world: World, asked: Asked) -> Answered<Move> {
+    let slot = slot_of(world, asked);
     let mut bytes = [0u8; 65536];
-    let length = asked::count(asked);
     let mut own = [0u8; 16384];
-    let size = pieces::own_size(slot);
     tool_patterns::fill(&mut own, asked.pattern);
-    let at = slot.config.buffer.address;
     let result = endpoint_received::received(
-        state,
-        events,
-        asked.index,
-        asked.single,
-        &mut bytes[0..length],
-        &own[0..size],
-        at,
-        asked.position as usize,
+        world.state,
+        world.events,
+        asked.endpoint.index,
+        request(asked, slot),
+        &mut bytes[..asked.count()],
+        &own[..pieces::own_size(slot)],
     );
-    let answer = result.answer;
-    let count = pieces::brought(answer, slot);
-    copied_out(rt, at, asked, &bytes, count);
+    let count = pieces::brought(result.answer, slot);
+    let came = part(&bytes, asked.position as usize, count as usize);
+    copied(
+        rt,
+        own_buffer(slot).address,
+        pieces::place(asked),
+        came,
+        count,
+    );
     result
 }
 
-fn copied_in(rt: &impl Print, from: u32, to: u32, own: &[u8; 16384], count: u32) {
-    let all = &own[..];
-    tool_copies::copied_of(rt, from, to, all, count);
-}
-
-fn copied_out(rt: &impl Print, from: u32, asked: Asked, bytes: &[u8; 65536], count: u32) {
-    let to = pieces::place(asked);
-    let all = &bytes[..];
-    let came = endpoint_parts::part(all, asked.position as usize, count as usize);
-    tool_copies::copied_of(rt, from, to, came, count);
-}
-
 // The line of a transfer that was begun.
-fn piece(rt: &impl Print, answer: MoveAnswer, transfer: Transfer) {
-    let begun = pieces::is_begun(answer);
-    if begun {
-        tool_cells::text(rt, b"piece");
-        tool_cells::number(rt, transfer.address);
-        tool_cells::number(rt, transfer.length);
-        tool_cells::flag(rt, transfer.zlp);
-        tool_cells::text(rt, b"\n");
+fn piece(rt: &impl Print, answer: Result<Move, Refusal>, transfer: Transfer) {
+    if pieces::is_begun(answer) {
+        let mut line = Line::<50>::new();
+        line.text(b"piece");
+        line.cell(transfer.address);
+        line.cell(transfer.length);
+        line.cell(transfer.zlp as u32);
+        line.text(b"\n");
+        line.write(rt);
     }
 }

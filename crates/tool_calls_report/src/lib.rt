@@ -1,22 +1,19 @@
 // The report of a chain by an interrupt of its own, in which the link has nothing to say.
 #![tactic(auto)]
 
-use interrupt_asks::{InterruptAnswer, InterruptResult};
-use state::{LinkFlags, LinkState, LinkStatus, Reading, Refusal, TransferStatus, Wakes};
-use tool_arguments::Address;
+use interrupt_asks::InterruptResult;
+use state::{EndpointAddress, LinkFlags, LinkState, LinkStatus, Reading, Refusal, TransferStatus};
+use tool_arguments::{byte, endpoint};
+use tool_scripts::number;
 use world::World;
 
 // Such an interrupt is asked for with power, of a data endpoint, and with numbers that registers can hold.
 pub fn report(rt: &impl Print, list: &mut [u32; 640], world: World, line: &[u8]) -> World {
-    let fits = fits(line);
-    let awaited = world.state.awaited;
-    let next = awaited.next;
-    let awaiting = state::readings::is_awaiting(next);
-    if awaiting {
+    if world.state.awaited.next.is_some() {
         tool_answers::refused(rt, Refusal::OutOfTurn);
         return world;
     }
-    if world.state.powered & fits {
+    if world.state.powered & fits(line) {
         return reported(rt, list, world, line);
     }
     tool_answers::unfit(rt);
@@ -24,32 +21,23 @@ pub fn report(rt: &impl Print, list: &mut [u32; 640], world: World, line: &[u8])
 }
 
 fn fits(line: &[u8]) -> bool {
-    let index = tool_arguments::byte(line, 1);
-    let data = state_slots::is_data_endpoint(index);
-    let packets = tool_scripts::number(line, 2);
-    let last = tool_scripts::number(line, 3);
-    data & (packets < 256) & (last < 65536)
+    let data = state_slots::is_data_endpoint(byte(line, 1));
+    data & (number(line, 2) < 256) & (number(line, 3) < 65536)
 }
 
 fn reported(rt: &impl Print, list: &mut [u32; 640], world: World, line: &[u8]) -> World {
-    let at = tool_arguments::endpoint(line);
-    let packets = tool_scripts::number(line, 2);
-    let last = tool_scripts::number(line, 3);
-    let begun = begin(list, world);
+    let at = endpoint(line);
+    let begun = left(
+        world,
+        interrupt_begin::interrupt(list, world.state, world.events),
+    );
     let quiet = link(rt, list, begun);
-    let status = transfer(rt, list, quiet, at);
+    let status = next(rt, list, quiet, Reading::TransferStatus(transfer(at)));
     if at.incoming {
         return status;
     }
-    let counted = next(rt, list, status, Reading::ChainPackets(packets));
-    next(rt, list, counted, Reading::LastLength(last))
-}
-
-fn begin(list: &mut [u32; 640], world: World) -> World {
-    let state = world.state;
-    let events = world.events;
-    let result = interrupt_begin::interrupt(list, state, events);
-    left(world, result)
+    let counted = next(rt, list, status, Reading::ChainPackets(number(line, 2)));
+    next(rt, list, counted, Reading::LastLength(number(line, 3)))
 }
 
 // No flag of the link is set.
@@ -72,8 +60,8 @@ fn link(rt: &impl Print, list: &mut [u32; 640], world: World) -> World {
     next(rt, list, flagged, Reading::LinkStatus(status))
 }
 
-fn transfer(rt: &impl Print, list: &mut [u32; 640], world: World, at: Address) -> World {
-    let status = TransferStatus {
+fn transfer(at: EndpointAddress) -> TransferStatus {
+    TransferStatus {
         udif_setup: false,
         udif_status: false,
         uif_transfer: true,
@@ -83,33 +71,19 @@ fn transfer(rt: &impl Print, list: &mut [u32; 640], world: World, at: Address) -
         uif_rx_ping: false,
         uif_fifo_txov: false,
         uif_fifo_rxov: false,
-    };
-    next(rt, list, world, Reading::TransferStatus(status))
-}
-
-// A reading, and what is written behind it.
-fn next(rt: &impl Print, list: &mut [u32; 640], world: World, reading: Reading) -> World {
-    let state = world.state;
-    let events = world.events;
-    let result = interrupt::answer(list, state, events, reading);
-    tool_print::operations(rt, list, result.end);
-    let answer = result.answer;
-    let wakes = result.wakes;
-    tell(rt, answer, wakes);
-    left(world, result)
-}
-
-// Only the end of handling is told.
-fn tell(rt: &impl Print, answer: InterruptAnswer, wakes: Wakes) {
-    match answer {
-        InterruptAnswer::Ended => tool_answers::answer(rt, 0, 0, wakes),
-        _ => {}
     }
 }
 
-fn left(world: World, res: InterruptResult) -> World {
-    let state = res.state;
-    let events = res.events;
-    let after = world::with_state(world, state);
-    world::with_events(after, events)
+// A reading, and what is written behind it. Only the end of handling is told.
+fn next(rt: &impl Print, list: &mut [u32; 640], world: World, reading: Reading) -> World {
+    let result = interrupt::answer(list, world.state, world.events, reading);
+    tool_print::operations(rt, list, result.end);
+    if let Ok(None) = result.answer {
+        tool_answers::answer(rt, 0, 0, result.wakes);
+    }
+    left(world, result)
+}
+
+fn left(world: World, called: InterruptResult) -> World {
+    world.with_state(called.state).with_events(called.events)
 }

@@ -1,33 +1,15 @@
 // The driver's start.
 #![tactic(auto)]
 
-use driver_start::StartAnswer;
+use tool_scripts::number;
 use world::World;
 
 pub fn start(rt: &impl Print, world: World, line: &[u8]) -> World {
-    let size = tool_scripts::number(line, 0);
-    if 65535 < size {
+    let Ok(size) = u16::try_from(number(line, 0)) else {
         tool_answers::unfit(rt);
         return world;
-    }
-    start_with(rt, world, size as u16)
-}
-
-fn start_with(rt: &impl Print, world: World, size: u16) -> World {
-    let state = world.state;
-    let events = world.events;
-    let driver = world.driver;
-    let started = driver_start::start(state, events, driver, size);
-    let answer = started.answer;
-    match answer {
-        StartAnswer::Refused(refusal) => tool_answers::refused(rt, refusal),
-        StartAnswer::Started => tool_answers::done(rt, 0),
-    }
-    let after = started.state;
-    let pending = started.events;
-    World {
-        driver: driver,
-        state: after,
-        events: pending,
-    }
+    };
+    let started = driver_start::start(world.state, world.events, world.driver, size);
+    tool_answers::told(rt, started.answer.map(|()| 0), started.wakes);
+    world.with_state(started.state).with_events(started.events)
 }

@@ -1,12 +1,12 @@
 -- Digits read one after the other.
 -- Assumes nothing.
-use Rattle.std.specs.Prelude.{ℕ, suc, ◌+◌, ◌^◌, ◌≤◌, ◌<◌, true, false, ◌&&◌, ◌≡◌, refl, ltb, leb, length, get_or, drop}
-use Rattle.std.proofs.Math.Bool.{and-false, and-eq-true_iff}
+use Rattle.std.specs.Prelude.{ℕ, suc, ◌+◌, ◌-◌, ◌^◌, ◌≤◌, ◌<◌, Bool, true, false, cond, ◌&&◌, ◌≡◌, refl, ltb, length, get_or, drop, Some, None}
+use Rattle.std.proofs.Math.Bool.{and-false}
 use mathlib.Core.List.{List, [], ◌∷◌, foldl}
-use Rattle.std.proofs.Common.{◌∙◌, arith, add-one, leb-true, lt-ltb, le-ltb, drop-cons}
+use Rattle.std.proofs.Common.{◌∙◌, arith, add-one, lt-ltb, le-ltb, drop-cons}
 use Rattle.std.proofs.Math.Seq.{drop-length}
 use Rattle.tool_lines.specs.Line.{digitb, allb, with_digit, decimal, numberb}
-use Rattle.tool_lines.specs.Digits.{number_of, Reading}
+use Rattle.tool_lines.specs.Digits.{digit_of, number_of, Reading}
 
 pub reading_none : (field : List ℕ) → Reading field 0 0
 unfolding decimal
@@ -20,10 +20,19 @@ reading_more field i v h d r =
       number = r.number ∙ rw (add-one i, drop-cons field i 0 h);
     }
 
-pub digit_bounds : (b : ℕ) → digitb b ≡ true → (48 ≤ b) × (b ≤ 57)
-digit_bounds b d =
-    let both = (and-eq-true_iff (leb 48 b) (leb b 57)).0 d in
-    (leb-true 48 b both.0, leb-true b 57 both.1)
+pub not_digit : (b : ℕ) → None ≡ digit_of b → digitb b ≡ false
+not_digit b = go (digitb b)
+  where
+    go : (t : Bool) → None ≡ cond t (Some (b - 48)) None → t ≡ false
+    go false e = refl
+    go true e = absurd (cc)
+
+pub a_digit : (b d : ℕ) → Some d ≡ digit_of b → (digitb b ≡ true) × (d ≡ b - 48)
+a_digit b d = go (digitb b)
+  where
+    go : (t : Bool) → Some d ≡ cond t (Some (b - 48)) None → (t ≡ true) × (d ≡ b - 48)
+    go false e = absurd (cc)
+    go true e = (refl, cc)
 
 grows : (l : List ℕ) (v : ℕ) → v ≤ foldl with_digit v l
 grows [] v = omega arith
@@ -46,8 +55,13 @@ too_large field i v h large r =
       and-false (ltb 0 (length field) && allb digitb field),
     )
 
+-- no field is no number
+pub no_number : None ≡ number_of []
+unfolding numberb
+no_number = refl
+
 -- where a field is no number
-pub refused : (field : List ℕ) → numberb field ≡ false → record { fits = false; value = 0 } ≡ number_of field
+pub refused : (field : List ℕ) → numberb field ≡ false → None ≡ number_of field
 refused field h = rw h
 
 whole : (field : List ℕ) (v : ℕ) → 0 < length field → v < 2 ^ 32 → Reading field (length field) v →
@@ -59,7 +73,7 @@ whole field v some small r =
 
 -- a field read to its end
 pub digits_accepted : (field : List ℕ) (i v : ℕ) → 0 < length field → v < 2 ^ 32 → i ≡ length field → Reading field i v →
-    record { fits = true; value = v } ≡ number_of field
+    Some v ≡ number_of field
 digits_accepted field i v some small e r =
     let w = whole field v some small (rw e at r) in
     rw (w.0, w.1)

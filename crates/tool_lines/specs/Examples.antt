@@ -1,11 +1,9 @@
 -- Lines, and what they say: the paper's example, lines at the edges, and damaged ones.
 -- Assumes nothing.
-use Rattle.std.specs.Prelude.{ℕ, Bool, true, false, List, [], ◌∷◌, map, ◌≡◌, refl}
+use Rattle.std.specs.Prelude.{ℕ, Bool, true, false, List, [], ◌∷◌, map, ◌≡◌, refl, Option, Some, None}
 use Prim.Native.Char.{code}
 use Prim.Native.String.{String, [] as empty, ◌∷◌ as ◌before◌}
-use Rattle.tool_lines.specs.Bytes.{index_of, index_after}
-use Rattle.tool_lines.specs.declared.Line.{Line}
-use Rattle.tool_lines.specs.declared.Line.TheVariants.{Unreadable, Readable}
+use Rattle.tool_lines.specs.declared.Request.{Request}
 use Rattle.tool_lines.specs.Line.{fields, decimal, numberb, readable, read_line, line_end}
 
 -- a text's bytes: each character here is ASCII
@@ -16,15 +14,15 @@ bytes (c before s) = code c ∷ bytes s
 infix 70 ◌says◌
 pub record Example : Type 0 where
   pub line : String
-  pub says : Line
+  pub says : Option Request
 
-abbrev ◌says◌ : String → Line → Example
+abbrev ◌says◌ : String → Option Request → Example
 line says answer = record { line = line; says = answer }
 
 -- a request in the sequence of the fields
-abbrev asks : Bool → ℕ → ℕ → ℕ → ℕ → ℕ → Bool → Line
+abbrev asks : Bool → ℕ → ℕ → ℕ → ℕ → ℕ → Bool → Option Request
 asks incoming endpoint size own address length zlp =
-    Readable (record {
+    Some (record {
       incoming = incoming;
       endpoint = endpoint;
       max_packet_size = size;
@@ -40,17 +38,17 @@ examples =
     ∷ "out\t7\t64\t0\t0\t0\t0" says asks false 7 64 0 0 0 false
     -- leading zeros, the largest number
     ∷ "in\t01\t4294967295\t00\t3\t4\t001" says asks true 1 4294967295 0 3 4 true
-    ∷ "in\t1\t4294967296\t0\t3\t4\t1" says Unreadable
-    ∷ "in\t1\t2\t0\t3\t4\t2" says Unreadable
-    ∷ "in\t1\t2\t0\t3\t4" says Unreadable
-    ∷ "in\t1\t2\t0\t3\t4\t1\t" says Unreadable
-    ∷ "in\t1\t\t0\t3\t4\t1" says Unreadable
-    ∷ "in\t1\t2\t-1\t3\t4\t1" says Unreadable
-    ∷ "in\t1\t2\t0:\t3\t4\t1" says Unreadable
-    ∷ "in\t1\t2\t0\t3\t4\t1\r" says Unreadable
-    ∷ "In\t1\t2\t0\t3\t4\t1" says Unreadable
-    ∷ "in 1 2 0 3 4 1" says Unreadable
-    ∷ "" says Unreadable
+    ∷ "in\t1\t4294967296\t0\t3\t4\t1" says None
+    ∷ "in\t1\t2\t0\t3\t4\t2" says None
+    ∷ "in\t1\t2\t0\t3\t4" says None
+    ∷ "in\t1\t2\t0\t3\t4\t1\t" says None
+    ∷ "in\t1\t\t0\t3\t4\t1" says None
+    ∷ "in\t1\t2\t-1\t3\t4\t1" says None
+    ∷ "in\t1\t2\t0:\t3\t4\t1" says None
+    ∷ "in\t1\t2\t0\t3\t4\t1\r" says None
+    ∷ "In\t1\t2\t0\t3\t4\t1" says None
+    ∷ "in 1 2 0 3 4 1" says None
+    ∷ "" says None
     ∷ []
 
 pub said : map (λ (e : Example). read_line (bytes e.line)) examples ≡ map (λ (e : Example). e.says) examples
@@ -59,5 +57,4 @@ said = refl
 
 -- the lines of a text with an empty one and a last one without line feed; past the end nothing is found
 pub ends : map (line_end (bytes "in\n\nout")) (0 ∷ 2 ∷ 3 ∷ 4 ∷ 7 ∷ 9 ∷ []) ≡ (2 ∷ 2 ∷ 3 ∷ 7 ∷ 7 ∷ 9 ∷ [])
-unfolding index_of index_after
 ends = refl

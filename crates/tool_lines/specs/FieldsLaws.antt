@@ -1,90 +1,91 @@
--- Fields of a line, found one after the other.
+-- The fields of a line, one after the other.
 -- Assumes nothing.
-use Rattle.std.specs.Prelude.{ℕ, suc, ◌+◌, ◌-◌, ◌≤◌, ◌<◌, Bool, true, false, cond, List, [], ◌∷◌, ◌≡◌, refl, eqb, ltb, leb, length, get_or, take, drop}
-use Rattle.std.proofs.Common.{ap, sym, ◌∙◌, arith, add-zero, leb-true, leb-false, lt-ltb, le-ltb, le-leb, length-drop, drop-drop, get_or-drop}
-use Rattle.std.proofs.lemmas.Bool.{lt-leb}
-use Rattle.std.proofs.Math.Dec.{leb-suc-suc, leb-zero}
-use Rattle.tool_lines.specs.Bytes.{index_of, index_after}
-use Rattle.tool_lines.specs.declared.Number.{Number}
-use Rattle.tool_lines.specs.declared.NumberAt.{NumberAt}
-use Rattle.tool_lines.specs.Line.{tab, onto, fields, numberb}
-use Rattle.tool_lines.specs.Search.{seek}
-use Rattle.tool_lines.specs.Digits.{value_of, number_of}
-use Rattle.tool_lines.specs.Fields.{rest, first_field, ReadAt, noneb}
+use Rattle.std.specs.Prelude.{ℕ, ◌+◌, ◌≤◌, ◌<◌, ◌≡◌, refl, Bool, true, false, not, cond, List, [], ◌∷◌, Option, Some, None, eqb, ltb, length, take, slice_range, unwrap_or}
+use Rattle.std.proofs.Common.{sym, arith, ltb-true, ltb-false}
+use Rattle.std.specs.List.{position, position_or_len, slice_split, onto_first}
+use Rattle.std.proofs.lemmas.List.Splits.{slice_split_first}
+use Rattle.std.proofs.lemmas.List.Sums.{prefix_len-le-length}
+use Rattle.std.proofs.lemmas.Slice.{between_to_end}
+use Rattle.tool_lines.specs.Line.{tab, line_feed, line_end, fields}
+use Rattle.tool_lines.specs.Fields.{fields_from, noneb}
+use Rattle.std.specs.Option.{is_some}
+use Rattle.std.specs.Borrow.{Bor}
 
--- the first field, and the others where there is a tab behind it
-split : (l : List ℕ) →
-    fields l ≡ take (index_of tab l) l ∷ cond (ltb (index_of tab l) (length l)) (fields (drop (suc (index_of tab l)) l)) []
-unfolding fields index_of index_after
-split [] = refl
-split (b ∷ l) = go (eqb b tab) (split l)
+-- where a byte was found, or that it was not
+module _ (p : ℕ → Bool) (bytes : List ℕ) where
+  found_at : (end : ℕ) → Some end ≡ position p bytes → (position_or_len p bytes ≡ end) × (end < length bytes)
+  found_at end = go (ltb (position_or_len p bytes) (length bytes)) refl
+    where
+      go : (t : Bool) → ltb (position_or_len p bytes) (length bytes) ≡ t → Some end ≡ cond t (Some (position_or_len p bytes)) None
+          → (position_or_len p bytes ≡ end) × (end < length bytes)
+      go true b e =
+          let same : end ≡ position_or_len p bytes = cc in
+          (cc, omega (arith, ltb-true (position_or_len p bytes) (length bytes) b))
+      go false b e = absurd (cc)
+
+  found_nowhere : None ≡ position p bytes → length bytes ≤ position_or_len p bytes
+  found_nowhere = go (ltb (position_or_len p bytes) (length bytes)) refl
+    where
+      go : (t : Bool) → ltb (position_or_len p bytes) (length bytes) ≡ t → None ≡ cond t (Some (position_or_len p bytes)) None
+          → length bytes ≤ position_or_len p bytes
+      go true b e = absurd (cc)
+      go false b e = ltb-false (position_or_len p bytes) (length bytes) b
+
+-- a position, or the end where there is none
+pub found_or_end : (p : ℕ → Bool) (bytes : List ℕ) → unwrap_or (position p bytes) (length bytes) ≡ position_or_len p bytes
+found_or_end p bytes = go (ltb (position_or_len p bytes) (length bytes)) refl
   where
-    go : (t : Bool) → fields l ≡ take (index_of tab l) l ∷ cond (ltb (index_of tab l) (length l)) (fields (drop (suc (index_of tab l)) l)) [] →
-        cond t ([] ∷ fields l) (onto b (fields l))
-        ≡ take (index_after t (index_of tab l)) (b ∷ l)
-        ∷ cond (ltb (index_after t (index_of tab l)) (suc (length l))) (fields (drop (suc (index_after t (index_of tab l))) (b ∷ l))) []
-    go true h = rw (lt-ltb 0 (suc (length l)) (omega arith))
-    go false h = ap (onto b) h ∙ rw (leb-suc-suc (suc (index_of tab l)) (length l))
+    go : (t : Bool) → ltb (position_or_len p bytes) (length bytes) ≡ t →
+        unwrap_or (cond t (Some (position_or_len p bytes)) None) (length bytes) ≡ position_or_len p bytes
+    go true b = refl
+    go false b = omega (arith, ltb-false (position_or_len p bytes) (length bytes) b, prefix_len-le-length (λ x. not (p x)) bytes)
 
-pub no_rest : (line : List ℕ) (from : ℕ) → length line < from → rest line from ≡ []
-unfolding rest
-no_rest line from h = rw (lt-leb from (length line) h)
-
-pub all_rest : (line : List ℕ) → rest line 0 ≡ fields line
-unfolding rest
-all_rest line = rw (leb-zero (length line))
-
--- orders that hold together
-together : (a b c d : ℕ) → (c ≤ d → a ≤ b) → (d < c → b < a) → leb a b ≡ leb c d
-together a b c d holds fails = go (leb c d) refl
+-- where nothing passes, a list is its only part
+one_part : (p : ℕ → Bool) (l : List ℕ) → length l ≤ position_or_len p l → slice_split p l ≡ l ∷ []
+one_part p [] h = refl
+one_part p (b ∷ l) h = go (p b) refl (one_part p l)
   where
-    go : (t : Bool) → leb c d ≡ t → leb a b ≡ t
-    go true e = le-leb a b (holds (leb-true c d e))
-    go false e = lt-leb a b (fails (leb-false c d e))
+    go : (t : Bool) → p b ≡ t → (length l ≤ position_or_len p l → slice_split p l ≡ l ∷ []) → slice_split p (b ∷ l) ≡ (b ∷ l) ∷ []
+    go true e more =
+        let none : length (b ∷ l) ≤ 0 = rw e at h in
+        absurd (omega arith)
+    go false e more =
+        let one : length (b ∷ l) ≤ 1 + position_or_len p l = rw e at h in
+        rw (e, more (omega arith))
 
--- the field at `from`, and those behind it
-pub rest_step : (line : List ℕ) (from end : ℕ) → from ≤ length line → end ≡ seek line from tab →
-    rest line from ≡ take (end - from) (drop from line) ∷ rest line (end + 1)
-unfolding rest
-rest_step line from end h e =
-    let k : end - from ≡ index_of tab (drop from line) = omega arith in
-    let n : from + suc (index_of tab (drop from line)) ≡ end + 1 = omega arith in
-    let t : ltb (index_of tab (drop from line)) (length (drop from line)) ≡ leb (end + 1) (length line)
-    = together (suc (index_of tab (drop from line))) (length (drop from line)) (end + 1) (length line)
-    (λ p. omega (arith, p, length-drop from line)) (λ p. omega (arith, p, length-drop from line)) in
-    rw (le-leb from (length line) h, split (drop from line), k, t, drop-drop (suc (index_of tab (drop from line))) from line, n)
+-- the first field, and those behind its tab
+pub next_field : (line : List ℕ) (end : ℕ) → Some end ≡ position (λ b. eqb b tab) line →
+    fields line ≡ take end line ∷ fields (slice_range line (end + 1) (length line))
+unfolding fields
+next_field line end e =
+    let at = found_at (λ b. eqb b tab) line end e in
+    rw (between_to_end line (end + 1) (length line) (omega arith), ← at.0) (slice_split_first (λ b. eqb b tab) line 0 (omega arith))
 
-pub first_word : (line : List ℕ) (end : ℕ) → end ≡ seek line 0 tab → fields line ≡ take (end - 0) line ∷ rest line (end + 1)
-first_word line end e = sym (all_rest line) ∙ rest_step line 0 end (omega arith) e
+-- the last one has no tab behind it
+pub last_field : (line : List ℕ) → None ≡ position (λ b. eqb b tab) line → fields line ≡ line ∷ []
+unfolding fields
+last_field line e = one_part (λ b. eqb b tab) line (found_nowhere (λ b. eqb b tab) line e)
 
-pub read_past : (line : List ℕ) (from : ℕ) → length line < from → ReadAt line from (record { fits = false; value = 0; next = from })
-unfolding numberb
-read_past line from h =
-    let none = no_rest line from h in
-    record { fits = rw none; value = rw none; behind = rw none }
+-- the end of the line that begins at `from`
+pub end_found : (bytes rest : List ℕ) (from end : ℕ) (place : Option ℕ) → rest ≡ slice_range bytes from (length bytes) →
+    place ≡ position (λ b. eqb b line_feed) rest → end ≡ unwrap_or place (length rest) → from + end ≡ line_end bytes from
+end_found bytes rest from end place r p e =
+    rw (e, p, found_or_end (λ b. eqb b line_feed) rest, r, between_to_end bytes from (length bytes) (omega arith))
 
-pub read_field : (line : List ℕ) (from end : ℕ) (number : Number) → from ≤ length line → end ≡ seek line from tab →
-    number ≡ number_of (take (end - from) (drop from line)) →
-    ReadAt line from (record { fits = number.fits; value = number.value; next = end + 1 })
-read_field line from end number h e n =
-    let step = rest_step line from end h e in
-    record { fits = rw (step, n); value = rw (step, n); behind = rw step }
-
-some_field : (l : List ℕ) → noneb (fields l) ≡ false
-some_field l = rw (split l)
-
--- a position behind the line is that of no field
-pub behind_line : (line : List ℕ) (from : ℕ) → ltb (length line) from ≡ noneb (rest line from)
-unfolding rest
-behind_line line from = go (leb from (length line)) refl
+some_field : (p : ℕ → Bool) (line : List ℕ) → noneb (slice_split p line) ≡ false
+unfolding noneb
+some_field p [] = refl
+some_field p (b ∷ line) = go (p b) (slice_split p line)
   where
-    go : (t : Bool) → leb from (length line) ≡ t → ltb (length line) from ≡ noneb (cond t (fields (drop from line)) [])
-    go true e = le-ltb (length line) from (leb-true from (length line) e) ∙ sym (some_field (drop from line))
-    go false e = lt-ltb (length line) from (leb-false from (length line) e)
+    go : (t : Bool) (fs : List (List ℕ)) → noneb (cond t ([] ∷ fs) (onto_first b fs)) ≡ false
+    go true fs = refl
+    go false [] = refl
+    go false (f ∷ fs) = refl
 
--- what was read at field k, and where field k + 1 is
-pub at_field : (line : List ℕ) (fs : List (List ℕ)) (k from : ℕ) (n : NumberAt) → rest line from ≡ drop k fs → ReadAt line from n →
-    ((n.fits ≡ numberb (get_or fs k [])) × (n.value ≡ value_of (get_or fs k []))) × (rest line n.next ≡ drop (k + 1) fs)
-at_field line fs k from n e r =
-    let one : first_field (rest line from) ≡ get_or fs k [] = rw (e, get_or-drop k fs 0 [], add-zero k) in
-    ((r.fits ∙ rw one, r.value ∙ rw one), r.behind ∙ rw (e, drop-drop 1 k fs))
+-- nothing is left of a line where no field is
+pub none_left : (rest : Option (Bor (List ℕ))) (none : Bool) → is_some rest ≡ not none → none ≡ noneb (fields_from rest)
+unfolding fields noneb
+none_left None true h = refl
+none_left None false h = absurd (cc)
+none_left (Some line) true h = absurd (cc)
+none_left (Some line) false h = sym (some_field (λ b. eqb b tab) line.now)

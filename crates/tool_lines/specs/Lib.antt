@@ -1,7 +1,4 @@
-pub mod Bytes
 pub mod Line
-pub mod Search
-pub mod SearchLaws
 pub mod Digits
 pub mod DigitsLaws
 pub mod Fields

@@ -1,11 +1,10 @@
 -- What a line of the listing program's input says, by document 01's words on that program.
 -- Assumes nothing.
-use Rattle.std.specs.Prelude.{ℕ, ◌+◌, ◌*◌, ◌-◌, ◌^◌, Bool, true, false, cond, ◌&&◌, ◌||◌, eqb, ltb, leb, length, get_or, drop}
+use Rattle.std.specs.Prelude.{ℕ, ◌+◌, ◌*◌, ◌-◌, ◌^◌, Bool, true, false, cond, ◌&&◌, ◌||◌, eqb, ltb, leb, length, get_or, drop, Option, Some, None}
 use mathlib.Core.List.{List, [], ◌∷◌, foldl}
-use Rattle.tool_lines.specs.Bytes.{index_of}
+use Rattle.std.specs.List.{position_or_len, slice_split}
+use Rattle.std.specs.Str.{bytes_eq}
 use Rattle.tool_lines.specs.declared.Request.{Request}
-use Rattle.tool_lines.specs.declared.Line.{Line}
-use Rattle.tool_lines.specs.declared.Line.TheVariants.{Unreadable, Readable}
 
 abbrev pub tab : ℕ
 tab = 9
@@ -15,24 +14,15 @@ line_feed = 10
 
 -- where the line that begins at `from` ends: at its line feed, or with the bytes
 abbrev pub line_end : List ℕ → ℕ → ℕ
-line_end bytes from = from + index_of line_feed (drop from bytes)
-
--- a byte in front of the first field
-abbrev pub onto : ℕ → List (List ℕ) → List (List ℕ)
-onto b [] = (b ∷ []) ∷ []
-onto b (field ∷ more) = (b ∷ field) ∷ more
+line_end bytes from = from + position_or_len (λ b. eqb b line_feed) (drop from bytes)
 
 -- the fields of a line: what stands between its tabs. There is one more than there are tabs.
 unfoldable pub fields : List ℕ → List (List ℕ)
-fields [] = [] ∷ []
-fields (b ∷ line) = cond (eqb b tab) ([] ∷ fields line) (onto b (fields line))
+fields line = slice_split (λ b. eqb b tab) line
 
 -- two words with the same bytes
 abbrev pub sameb : List ℕ → List ℕ → Bool
-sameb [] [] = true
-sameb [] (y ∷ b) = false
-sameb (x ∷ a) [] = false
-sameb (x ∷ a) (y ∷ b) = eqb x y && sameb a b
+sameb a b = bytes_eq a b
 
 -- the directions, in ASCII
 abbrev pub «in» : List ℕ
@@ -81,5 +71,13 @@ asked fs =
     }
 
 -- a line without its line feed
-unfoldable pub read_line : List ℕ → Line
-read_line line = cond (readable (fields line)) (Readable (asked (fields line))) Unreadable
+unfoldable pub read_line : List ℕ → Option Request
+read_line line = cond (readable (fields line)) (Some (asked (fields line))) None
+
+-- whether a word is `in`, of the two directions
+abbrev pub direction_of : List ℕ → Option Bool
+direction_of word = cond (sameb word «in») (Some true) (cond (sameb word out) (Some false) None)
+
+-- a number below 2 sets or clears a flag
+abbrev pub flag_of : ℕ → Option Bool
+flag_of n = cond (ltb n 2) (Some (eqb n 1)) None

@@ -1,36 +1,120 @@
--- What the code reads of a line is what the line says.
+-- A line's fields, read in turn.
 -- Assumes nothing.
-use Rattle.std.specs.Prelude.{ℕ, Bool, cond, ◌&&◌, ◌||◌, List, [], ◌∷◌, ◌≡◌, refl, eqb, ltb, length, get_or, drop}
-use Rattle.std.proofs.Math.Bool.{true, false, and-true, and-false, and-eq-true_iff}
-use Rattle.std.proofs.Common.{true≢false, ap, ◌∙◌, arith, eqb-true, eq-eqb, ne_eqb}
-use Rattle.std.proofs.Math.Path.{sym}
-use Rattle.tool_lines.specs.declared.NumberAt.{NumberAt}
-use Rattle.tool_lines.specs.declared.Line.TheVariants.{Unreadable, Readable}
-use Rattle.tool_lines.specs.Line.{fields, sameb, «in», out, decimal, numberb, readable, asked, read_line}
-use Rattle.tool_lines.specs.Digits.{value_of}
-use Rattle.tool_lines.specs.Fields.{rest, ReadAt, noneb}
-use Rattle.tool_lines.specs.FieldsLaws.{behind_line, at_field}
+use Rattle.std.specs.Prelude.{ℕ, zero, suc, Bool, true, false, cond, ◌&&◌, ◌||◌, List, [], ◌∷◌, Option, Some, None, ◌≡◌, refl, eqb, ltb, length, get_or, drop}
+use Rattle.std.specs.Option.{option_and_then}
+use Rattle.std.proofs.Common.{sym, ◌∙◌, arith, ne_eqb}
+use Rattle.std.proofs.Math.Bool.{and-true, and-false}
+use Rattle.tool_lines.specs.declared.Request.{Request}
+use Rattle.tool_lines.specs.Line.{fields, sameb, «in», out, decimal, numberb, readable, read_line, direction_of, flag_of}
+use Rattle.tool_lines.specs.Digits.{value_of, number_of}
+use Rattle.tool_lines.specs.Fields.{first_field, noneb}
 
-sameb_refl : (a : List ℕ) → sameb a a ≡ true
-sameb_refl [] = refl
-sameb_refl (x ∷ a) = rw (eq-eqb x x refl, sameb_refl a)
+-- a request, if no field follows
+abbrev pub ended : Request → Bool → Option Request
+ended request none = cond none (Some request) None
 
-sameb_true : (a b : List ℕ) → sameb a b ≡ true → a ≡ b
-sameb_true [] [] h = refl
-sameb_true [] (y ∷ b) h = absurd (true≢false (sym h))
-sameb_true (x ∷ a) [] h = absurd (true≢false (sym h))
-sameb_true (x ∷ a) (y ∷ b) h =
-    let both = (and-eq-true_iff (eqb x y) (sameb a b)).0 h in
-    rw (eqb-true x y both.0, sameb_true a b both.1)
+-- what six numbers ask for, the last read first: the sixth is a flag
+abbrev pub flagged : Bool → List ℕ → Bool → Option Request
+flagged incoming (zlp ∷ length ∷ address ∷ own ∷ size ∷ endpoint ∷ []) none =
+    option_and_then (λ set. ended (record {
+      incoming = incoming;
+      endpoint = endpoint;
+      max_packet_size = size;
+      own = own;
+      address = address;
+      length = length;
+      zlp = set;
+    }) none) (flag_of zlp)
+flagged incoming numbers none = None
 
--- what a comparison told
-pub same_told : (a b : List ℕ) (r : Bool) → (r ≡ true → a ≡ b) × (a ≡ b → r ≡ true) → r ≡ sameb a b
-same_told a b true h = rw (h.0 refl, sameb_refl b)
-same_told a b false h = go (sameb a b) refl
-  where
-    go : (t : Bool) → sameb a b ≡ t → false ≡ t
-    go true e = h.1 (sameb_true a b e)
-    go false e = refl
+-- what is asked for where k numbers follow those that were read
+unfoldable pub numbered : ℕ → Bool → List ℕ → List (List ℕ) → Option Request
+numbered zero incoming ns fs = flagged incoming ns (noneb fs)
+numbered (suc k) incoming ns fs = option_and_then (λ n. numbered k incoming (n ∷ ns) (drop 1 fs)) (number_of (first_field fs))
+
+-- the fields read one behind the other
+abbrev in_turn : List (List ℕ) → Option Request
+in_turn fs = option_and_then (λ incoming. numbered 6 incoming [] (drop 1 fs)) (direction_of (first_field fs))
+
+-- the same, of what was tested of each field
+abbrev turns : Bool → Bool → (e m o a l z : Bool) (de dm do' da dl dz : ℕ) → Bool → Option Request
+turns i w e m o a l z de dm do' da dl dz none =
+    option_and_then (λ incoming.
+    option_and_then (λ endpoint.
+    option_and_then (λ size.
+    option_and_then (λ own.
+    option_and_then (λ address.
+    option_and_then (λ length.
+    option_and_then (λ flag.
+    option_and_then (λ zlp. ended (record {
+      incoming = incoming;
+      endpoint = endpoint;
+      max_packet_size = size;
+      own = own;
+      address = address;
+      length = length;
+      zlp = zlp;
+    }) none)
+    (flag_of flag))
+    (cond z (Some dz) None))
+    (cond l (Some dl) None))
+    (cond a (Some da) None))
+    (cond o (Some do') None))
+    (cond m (Some dm) None))
+    (cond e (Some de) None))
+    (cond i (Some true) (cond w (Some false) None))
+
+abbrev passing : Bool → Bool → (e m o a l z : Bool) (de dm do' da dl dz : ℕ) → Bool → Option Request
+passing i w e m o a l z de dm do' da dl dz none =
+    cond ((((i || w) && (((((e && m) && o) && a) && l) && z)) && ltb (cond z dz 0) 2) && none) (Some (record {
+      incoming = i;
+      endpoint = de;
+      max_packet_size = dm;
+      own = do';
+      address = da;
+      length = dl;
+      zlp = eqb dz 1;
+    })) None
+
+set_by : (i w : Bool) (de dm do' da dl dz : ℕ) (none t : Bool) →
+    option_and_then (λ zlp. ended (record {
+      incoming = i;
+      endpoint = de;
+      max_packet_size = dm;
+      own = do';
+      address = da;
+      length = dl;
+      zlp = zlp;
+    }) none) (cond t (Some (eqb dz 1)) None)
+    ≡ cond (t && none) (Some (record {
+      incoming = i;
+      endpoint = de;
+      max_packet_size = dm;
+      own = do';
+      address = da;
+      length = dl;
+      zlp = eqb dz 1;
+    })) None
+set_by i w de dm do' da dl dz none false = refl
+set_by i w de dm do' da dl dz none true = refl
+
+turned : (i w e m o a l z : Bool) (de dm do' da dl dz : ℕ) (none : Bool) →
+    turns i w e m o a l z de dm do' da dl dz none ≡ passing i w e m o a l z de dm do' da dl dz none
+turned false false e m o a l z de dm do' da dl dz none = refl
+turned true w false m o a l z de dm do' da dl dz none = refl
+turned true w true false o a l z de dm do' da dl dz none = refl
+turned true w true true false a l z de dm do' da dl dz none = refl
+turned true w true true true false l z de dm do' da dl dz none = refl
+turned true w true true true true false z de dm do' da dl dz none = refl
+turned true w true true true true true false de dm do' da dl dz none = refl
+turned true w true true true true true true de dm do' da dl dz none = set_by true w de dm do' da dl dz none (ltb dz 2)
+turned false true false m o a l z de dm do' da dl dz none = refl
+turned false true true false o a l z de dm do' da dl dz none = refl
+turned false true true true false a l z de dm do' da dl dz none = refl
+turned false true true true true false l z de dm do' da dl dz none = refl
+turned false true true true true true false z de dm do' da dl dz none = refl
+turned false true true true true true true false de dm do' da dl dz none = refl
+turned false true true true true true true true de dm do' da dl dz none = set_by false true de dm do' da dl dz none (ltb dz 2)
 
 -- the tests in one sequence and in the other
 shuffle : (w e m o a l z : Bool) (d : ℕ) →
@@ -58,7 +142,7 @@ unfolding numberb
 no_seventh = refl
 
 passes_readable : (fs : List (List ℕ)) → passes fs ≡ readable fs
-unfolding readable
+unfolding readable noneb
 passes_readable [] = refl
 passes_readable (w ∷ []) = simp (no_seventh, and-false)
 passes_readable (w ∷ e ∷ []) = simp (no_seventh, and-false)
@@ -71,130 +155,80 @@ passes_readable (w ∷ e ∷ m ∷ o ∷ a ∷ l ∷ z ∷ []) =
 passes_readable (w ∷ e ∷ m ∷ o ∷ a ∷ l ∷ z ∷ x ∷ fs) =
     rw (ne_eqb (length (w ∷ e ∷ m ∷ o ∷ a ∷ l ∷ z ∷ x ∷ fs)) 7 (λ h. omega (arith, h))) (simp and-false)
 
--- what the code read of a line: its word, up to `from`, and six numbers one behind the other
-pub record Read (line word : List ℕ) (from : ℕ) (incoming outgoing : Bool) (e m o a l z : NumberAt) : Type 0 where
-  pub word_is : fields line ≡ word ∷ rest line from
-  pub in_is : incoming ≡ sameb word «in»
-  pub out_is : outgoing ≡ sameb word out
-  pub e_is : ReadAt line from e
-  pub m_is : ReadAt line e.next m
-  pub o_is : ReadAt line m.next o
-  pub a_is : ReadAt line o.next a
-  pub l_is : ReadAt line a.next l
-  pub z_is : ReadAt line l.next z
+placed : (fs : List (List ℕ)) → turns (sameb (get_or fs 0 []) «in») (sameb (get_or fs 0 []) out)
+    (numberb (get_or fs 1 [])) (numberb (get_or fs 2 [])) (numberb (get_or fs 3 [])) (numberb (get_or fs 4 [])) (numberb (get_or fs 5 [])) (numberb (get_or fs 6 []))
+    (decimal (get_or fs 1 [])) (decimal (get_or fs 2 [])) (decimal (get_or fs 3 [])) (decimal (get_or fs 4 [])) (decimal (get_or fs 5 [])) (decimal (get_or fs 6 []))
+    (noneb (drop 7 fs))
+    ≡ in_turn fs
+unfolding numbered noneb
+placed [] = refl
+placed (w ∷ []) = refl
+placed (w ∷ e ∷ []) = refl
+placed (w ∷ e ∷ m ∷ []) = refl
+placed (w ∷ e ∷ m ∷ o ∷ []) = refl
+placed (w ∷ e ∷ m ∷ o ∷ a ∷ []) = refl
+placed (w ∷ e ∷ m ∷ o ∷ a ∷ l ∷ []) = refl
+placed (w ∷ e ∷ m ∷ o ∷ a ∷ l ∷ z ∷ fs) = refl
 
--- number k is that of field k
-abbrev Is : List (List ℕ) → ℕ → NumberAt → Type 0
-Is fs k n = (n.fits ≡ numberb (get_or fs k [])) × (n.value ≡ value_of (get_or fs k []))
+all_turned : (fs : List (List ℕ)) → passing (sameb (get_or fs 0 []) «in») (sameb (get_or fs 0 []) out)
+    (numberb (get_or fs 1 [])) (numberb (get_or fs 2 [])) (numberb (get_or fs 3 [])) (numberb (get_or fs 4 [])) (numberb (get_or fs 5 [])) (numberb (get_or fs 6 []))
+    (decimal (get_or fs 1 [])) (decimal (get_or fs 2 [])) (decimal (get_or fs 3 [])) (decimal (get_or fs 4 [])) (decimal (get_or fs 5 [])) (decimal (get_or fs 6 []))
+    (noneb (drop 7 fs))
+    ≡ in_turn fs
+all_turned fs = sym (turned (sameb (get_or fs 0 []) «in») (sameb (get_or fs 0 []) out)
+    (numberb (get_or fs 1 [])) (numberb (get_or fs 2 [])) (numberb (get_or fs 3 [])) (numberb (get_or fs 4 [])) (numberb (get_or fs 5 [])) (numberb (get_or fs 6 []))
+    (decimal (get_or fs 1 [])) (decimal (get_or fs 2 [])) (decimal (get_or fs 3 [])) (decimal (get_or fs 4 [])) (decimal (get_or fs 5 [])) (decimal (get_or fs 6 []))
+    (noneb (drop 7 fs))) ∙ placed fs
 
-record Told (fs : List (List ℕ)) (incoming outgoing whole : Bool) (e m o a l z : NumberAt) : Type 0 where
-  in_is : incoming ≡ sameb (get_or fs 0 []) «in»
-  out_is : outgoing ≡ sameb (get_or fs 0 []) out
-  e_is : Is fs 1 e
-  m_is : Is fs 2 m
-  o_is : Is fs 3 o
-  a_is : Is fs 4 a
-  l_is : Is fs 5 l
-  z_is : Is fs 6 z
-  whole_is : whole ≡ noneb (drop 7 fs)
+read_in_turn : (line : List ℕ) → read_line line ≡ in_turn (fields line)
+unfolding read_line
+read_in_turn line = rw (← passes_readable (fields line)) (all_turned (fields line))
 
-told : {line word : List ℕ} {from : ℕ} {incoming outgoing : Bool} {e m o a l z : NumberAt} → Read line word from incoming outgoing e m o a l z →
-    Told (fields line) incoming outgoing (ltb (length line) z.next) e m o a l z
-told {line} {word} {from} {e = e} {m = m} {o = o} {a = a} {l = l} {z = z} r =
-    let fs = fields line in
-    let w : word ≡ get_or fs 0 [] = rw r.word_is in
-    let s : rest line from ≡ drop 1 fs = rw r.word_is in
-    let e' = at_field line fs 1 from e s r.e_is in
-    let m' = at_field line fs 2 e.next m e'.1 r.m_is in
-    let o' = at_field line fs 3 m.next o m'.1 r.o_is in
-    let a' = at_field line fs 4 o.next a o'.1 r.a_is in
-    let l' = at_field line fs 5 a.next l a'.1 r.l_is in
-    let z' = at_field line fs 6 l.next z l'.1 r.z_is in
-    record {
-      in_is = r.in_is ∙ rw w;
-      out_is = r.out_is ∙ rw w;
-      e_is = e'.0;
-      m_is = m'.0;
-      o_is = o'.0;
-      a_is = a'.0;
-      l_is = l'.0;
-      z_is = z'.0;
-      whole_is = behind_line line z.next ∙ rw z'.1;
-    }
+-- what is left of a line decides, behind the numbers that were read
+pub record Left (line : List ℕ) (k : ℕ) (incoming : Bool) (ns : List ℕ) (fs : List (List ℕ)) : Type 0 where
+  pub is : read_line line ≡ numbered k incoming ns fs
 
--- the code's tests
-abbrev pub test : Bool → Bool → Bool → NumberAt → NumberAt → NumberAt → NumberAt → NumberAt → NumberAt → Bool
-test incoming outgoing whole e m o a l z =
-    (((incoming || outgoing) && (((((e.fits && m.fits) && o.fits) && a.fits) && l.fits) && z.fits)) && ltb z.value 2) && whole
+-- the direction, and what is read behind it
+module _ (line : List ℕ) {all : List (List ℕ)} (a : all ≡ fields line) where
+  pub directed_on : {word : List ℕ} {left : List (List ℕ)} {incoming : Bool} → all ≡ word ∷ left → Some incoming ≡ direction_of word →
+      Left line 6 incoming [] left
+  directed_on w d = record { is = read_in_turn line ∙ rw (← a, w, ← d) }
 
-tested : {fs : List (List ℕ)} {incoming outgoing whole : Bool} {e m o a l z : NumberAt} → Told fs incoming outgoing whole e m o a l z →
-    test incoming outgoing whole e m o a l z ≡ readable fs
-tested {fs} t =
-    rw (t.in_is, t.out_is, t.whole_is, t.e_is.0, t.m_is.0, t.o_is.0, t.a_is.0, t.l_is.0, t.z_is.0, t.z_is.1)
-    (passes_readable fs)
+  pub not_directed : {word : List ℕ} {left : List (List ℕ)} → all ≡ word ∷ left → None ≡ direction_of word → None ≡ read_line line
+  not_directed w d = sym (read_in_turn line ∙ rw (← a, w, ← d))
 
-value_is : (fs : List (List ℕ)) (k : ℕ) (n : NumberAt) → Is fs k n → n.fits ≡ true → n.value ≡ decimal (get_or fs k [])
-value_is fs k n p h =
-    let y : numberb (get_or fs k []) ≡ true = sym p.0 ∙ h in
-    p.1 ∙ rw y
+  pub no_word : all ≡ [] → None ≡ read_line line
+  no_word e = sym (read_in_turn line ∙ rw (← a, e))
 
-all_six : (e m o a l z : Bool) → (((((e && m) && o) && a) && l) && z) ≡ true →
-    (e ≡ true) × (m ≡ true) × (o ≡ true) × (a ≡ true) × (l ≡ true) × (z ≡ true)
-all_six e m o a l z h =
-    let z' = (and-eq-true_iff ((((e && m) && o) && a) && l) z).0 h in
-    let l' = (and-eq-true_iff (((e && m) && o) && a) l).0 z'.0 in
-    let a' = (and-eq-true_iff ((e && m) && o) a).0 l'.0 in
-    let o' = (and-eq-true_iff (e && m) o).0 a'.0 in
-    let m' = (and-eq-true_iff e m).0 o'.0 in
-    (m'.0, m'.1, o'.1, a'.1, l'.1, z'.1)
+-- a number, and what is read behind it
+module _ (k : ℕ) {line : List ℕ} {incoming : Bool} {ns : List ℕ} {fs : List (List ℕ)} (l : Left line (suc k) incoming ns fs) where
+  pub numbered_on : {left : List (List ℕ)} {n : ℕ} → Some n ≡ number_of (first_field fs) → left ≡ drop 1 fs → Left line k incoming (n ∷ ns) left
+  unfolding numbered
+  numbered_on h e = record { is = l.is ∙ rw (← h, ← e) }
 
-the_values : {fs : List (List ℕ)} {incoming outgoing whole : Bool} {e m o a l z : NumberAt} → Told fs incoming outgoing whole e m o a l z →
-    test incoming outgoing whole e m o a l z ≡ true →
-    record {
-      incoming = incoming;
-      endpoint = e.value;
-      max_packet_size = m.value;
-      own = o.value;
-      address = a.value;
-      length = l.value;
-      zlp = eqb z.value 1;
-    } ≡ asked fs
-the_values {fs} {incoming} {outgoing} {whole} {e} {m} {o} {a} {l} {z} t h =
-    let words = incoming || outgoing in
-    let numbers = ((((e.fits && m.fits) && o.fits) && a.fits) && l.fits) && z.fits in
-    let small = ((and-eq-true_iff ((words && numbers) && ltb z.value 2) whole).0 h).0 in
-    let known = ((and-eq-true_iff (words && numbers) (ltb z.value 2)).0 small).0 in
-    let six = all_six e.fits m.fits o.fits a.fits l.fits z.fits ((and-eq-true_iff words numbers).0 known).1 in
-    rw (
-      t.in_is,
-      value_is fs 1 e t.e_is six.0,
-      value_is fs 2 m t.m_is six.1,
-      value_is fs 3 o t.o_is six.2,
-      value_is fs 4 a t.a_is six.3,
-      value_is fs 5 l t.l_is six.4,
-      value_is fs 6 z t.z_is six.5,
-    )
+  pub not_numbered : None ≡ number_of (first_field fs) → None ≡ read_line line
+  unfolding numbered
+  not_numbered h = sym (l.is ∙ rw (← h))
 
-module _ {line word : List ℕ} {from : ℕ} {incoming outgoing : Bool} {e m o a l z : NumberAt} where
-  pub line_refused : Read line word from incoming outgoing e m o a l z →
-      test incoming outgoing (ltb (length line) z.next) e m o a l z ≡ false → Unreadable ≡ read_line line
-  unfolding read_line
-  line_refused r h =
-      let n : readable (fields line) ≡ false = sym (tested (told r)) ∙ h in
-      rw n
+-- the flag, and the end
+module _ {line : List ℕ} {incoming : Bool} {e m o a l z : ℕ} {fs : List (List ℕ)} (r : Left line 0 incoming (z ∷ l ∷ a ∷ o ∷ m ∷ e ∷ []) fs) where
+  pub not_flagged : None ≡ flag_of z → None ≡ read_line line
+  unfolding numbered
+  not_flagged f = sym (r.is ∙ rw (← f))
 
-  pub line_read : Read line word from incoming outgoing e m o a l z →
-      test incoming outgoing (ltb (length line) z.next) e m o a l z ≡ true →
-      Readable (record {
+  pub read_to_end : {set : Bool} → Some set ≡ flag_of z → noneb fs ≡ true →
+      Some (record {
         incoming = incoming;
-        endpoint = e.value;
-        max_packet_size = m.value;
-        own = o.value;
-        address = a.value;
-        length = l.value;
-        zlp = eqb z.value 1;
+        endpoint = e;
+        max_packet_size = m;
+        own = o;
+        address = a;
+        length = l;
+        zlp = set;
       }) ≡ read_line line
-  unfolding read_line
-  line_read r h =
-      let n : readable (fields line) ≡ true = sym (tested (told r)) ∙ h in
-      rw n (ap Readable (the_values (told r) h))
+  unfolding numbered
+  read_to_end f none = sym (r.is ∙ rw (← f, none))
+
+  pub more_behind : {set : Bool} → Some set ≡ flag_of z → noneb fs ≡ false → None ≡ read_line line
+  unfolding numbered
+  more_behind f some = sym (r.is ∙ rw (← f, some))

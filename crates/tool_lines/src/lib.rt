@@ -1,19 +1,19 @@
 // Lines of the listing program's input: where one ends, and what it asks for.
 #![tactic(auto)]
 
-ghost use Rattle.std.specs.Prelude.{◌≡◌, ◌+◌, ◌≤◌, length};
-ghost use Rattle.tool_lines.specs.Bytes.{index_of, slice};
-ghost use Rattle.tool_lines.specs.Line.{line_end, read_line};
-ghost use Rattle.tool_lines.specs.Search.{seek};
-ghost use Rattle.tool_lines.specs.Digits.{number_of};
-ghost use Rattle.tool_lines.specs.Fields.{ReadAt};
+mod fields;
+mod number;
+
+ghost use Rattle.std.specs.Prelude.{◌≡◌, ◌==◌};
+ghost use Rattle.std.specs.List.{position};
+ghost use Rattle.tool_lines.specs.Line.{line_end, direction_of, flag_of, read_line};
+
+pub use fields::Fields;
 
 const LINE_FEED: u8 = 10;
 
-const TAB: u8 = 9;
-
 // What a line asks for: a transfer of `length` bytes from or to `address`, over an endpoint with its own buffer.
-#[derive(Clone, Copy)]
+#[derive(Clone, Copy, PartialEq, Eq)]
 pub struct Request {
     pub incoming: bool,
     pub endpoint: u32,
@@ -24,140 +24,67 @@ pub struct Request {
     pub zlp: bool,
 }
 
-#[derive(Clone, Copy)]
-pub enum Line {
-    Unreadable,
-    Readable(Request),
-}
-
-// A field's number; where it has none, `fits` is clear and the value is 0.
-#[derive(Clone, Copy)]
-struct Number {
-    fits: bool,
-    value: u32,
-}
-
-// A number, and where the field behind its own begins.
-#[derive(Clone, Copy)]
-pub struct NumberAt {
-    pub fits: bool,
-    pub value: u32,
-    pub next: usize,
-}
-
 // The position of the first line feed from `from` on, or the end of the bytes where there is none. A position past the
 // end is given back as it is.
 pub fn line_end(bytes: &[u8], from: usize) -> usize
     ensures { result ≡ line_end bytes.now from }
 {
-    first(bytes, from, LINE_FEED)
-}
-
-// The same for any byte.
-pub fn first(bytes: &[u8], from: usize, byte: u8) -> usize
-    ensures { result ≡ seek bytes.now from byte }
-{
-    if bytes.len() < from {
-        return from;
-    }
-    find(bytes, from, byte)
-}
-
-// The first position of a byte from one that is not past the end, or the end where there is none.
-fn find(bytes: &[u8], from: usize, byte: u8) -> usize
-    requires { from ≤ length bytes.now }
-    ensures { result ≡ from + index_of byte (slice from (length bytes.now) bytes.now) }
-{
-    let mut i = from;
-    while i < bytes.len() {
-        if bytes[i] == byte {
-            return i;
-        }
-        i = i + 1;
-    }
-    i
-}
-
-// The number that a field's digits make up.
-fn read_number(field: &[u8]) -> Number
-    ensures { result ≡ number_of field.now }
-{
-    let none = Number {
-        fits: false,
-        value: 0,
-    };
-    if field.len() == 0 {
-        return none;
-    }
-    let mut value: u32 = 0;
-    let mut i: usize = 0;
-    while i < field.len() {
-        let byte = field[i];
-        let digit = (b'0' <= byte) & (byte <= b'9');
-        if !digit {
-            return none;
-        }
-        let more = (value as u64) * 10 + ((byte - b'0') as u64);
-        if 0xFFFF_FFFF < more {
-            return none;
-        }
-        value = more as u32;
-        i = i + 1;
-    }
-    Number {
-        fits: true,
-        value: value,
+    match bytes.get(from..) {
+        Some(rest) => from + position(rest, LINE_FEED).unwrap_or(rest.len()),
+        None => from,
     }
 }
 
-// The field that begins at `from`, as a number; behind the line's end there is none.
-pub fn number_at(line: &[u8], from: usize) -> NumberAt
-    ensures { ReadAt line.now from result }
+// The first position of a byte, if it is there.
+fn position(bytes: &[u8], byte: u8) -> Option<usize>
+    ensures { result ≡ position (λ b. b == byte) bytes.now }
 {
-    if line.len() < from {
-        return NumberAt {
-            fits: false,
-            value: 0,
-            next: from,
-        };
-    }
-    let end = first(line, from, TAB);
-    let number = read_number(&line[from..end]);
-    let next = end + 1;
-    NumberAt {
-        fits: number.fits,
-        value: number.value,
-        next: next,
-    }
+    bytes.iter().position(|b| *b == byte)
 }
 
 // What a line asks for, its line feed left out.
-pub fn read_line(line: &[u8]) -> Line
+pub fn read_line(line: &[u8]) -> Option<Request>
     ensures { result ≡ read_line line.now }
 {
-    let end = first(line, 0, TAB);
-    let word = &line[0..end];
-    let incoming = check::same(word, b"in");
-    let outgoing = check::same(word, b"out");
-    let next = end + 1;
-    let endpoint = number_at(line, next);
-    let size = number_at(line, endpoint.next);
-    let own = number_at(line, size.next);
-    let address = number_at(line, own.next);
-    let length = number_at(line, address.next);
-    let flag = number_at(line, length.next);
-    let numbers = endpoint.fits & size.fits & own.fits & address.fits & length.fits & flag.fits;
-    let whole = line.len() < flag.next;
-    if (incoming | outgoing) & numbers & (flag.value < 2) & whole {
-        return Line::Readable(Request {
-            incoming: incoming,
-            endpoint: endpoint.value,
-            max_packet_size: size.value,
-            own: own.value,
-            address: address.value,
-            length: length.value,
-            zlp: flag.value == 1,
-        });
+    let mut fields = Fields::of(line);
+    let incoming = direction(fields.next()?)?;
+    let endpoint = fields.number()?;
+    let max_packet_size = fields.number()?;
+    let own = fields.number()?;
+    let address = fields.number()?;
+    let length = fields.number()?;
+    let zlp = flag(fields.number()?)?;
+    if !fields.is_empty() {
+        return None;
     }
-    Line::Unreadable
+    Some(Request {
+        incoming,
+        endpoint,
+        max_packet_size,
+        own,
+        address,
+        length,
+        zlp,
+    })
+}
+
+// Whether a word is `in`, of the two directions.
+fn direction(word: &[u8]) -> Option<bool>
+    ensures { result ≡ direction_of word.now }
+{
+    match word {
+        b"in" => Some(true),
+        b"out" => Some(false),
+        _ => None,
+    }
+}
+
+fn flag(n: u32) -> Option<bool>
+    ensures { result ≡ flag_of n }
+{
+    match n {
+        0 => Some(false),
+        1 => Some(true),
+        _ => None,
+    }
 }

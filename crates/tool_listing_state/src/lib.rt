@@ -2,50 +2,49 @@
 // as it would be.
 #![tactic(auto)]
 
-use state::{Buffer, EndpointConfig, EndpointType, Slot, State};
+use state::fresh::{fresh, fresh_slot};
+use state::{Buffer, EndpointAddress, EndpointConfig, EndpointType, Slot, State};
+use state_slots::{slot_number, with_slot};
 use tool_lines::Request;
 
-pub fn endpoint(request: Request) -> u8 {
-    base::min(request.endpoint, 255) as u8
+pub fn endpoint(request: Request) -> EndpointAddress {
+    EndpointAddress {
+        index: request.endpoint.min(255) as u8,
+        incoming: request.incoming,
+    }
 }
 
 // A fresh state, powered, with the request's endpoint enabled where there is such an endpoint.
-pub fn enabled(request: Request, index: u8) -> State {
-    let mut fresh = state::fresh::fresh();
-    fresh.powered = true;
-    if index == 0 {
-        return fresh;
+pub fn enabled(request: Request, endpoint: EndpointAddress) -> State {
+    let powered = State {
+        powered: true,
+        ..fresh()
+    };
+    if endpoint.index == 0 {
+        return powered;
     }
-    let slot = enabled_slot(request, index);
-    let i = state_slots::slot_number(index, request.incoming);
-    state_slots::with_slot(fresh, i, slot)
+    with_slot(
+        powered,
+        slot_number(endpoint),
+        enabled_slot(request, endpoint),
+    )
 }
 
-fn enabled_slot(request: Request, index: u8) -> Slot {
-    let fresh = state::fresh::fresh_slot();
-    let size = base::min(request.max_packet_size, 65535);
-    let config = EndpointConfig {
-        index: index,
-        incoming: request.incoming,
-        ep_type: EndpointType::Interrupt,
-        max_packet_size: size as u16,
-        interval_ms: 1,
-        max_burst: 0,
-        buffer: Buffer {
-            address: request.own,
-            size: size,
-        },
-    };
-    let phase = fresh.phase;
-    let transfer = fresh.transfer;
-    let tally = fresh.tally;
+fn enabled_slot(request: Request, endpoint: EndpointAddress) -> Slot {
+    let size = request.max_packet_size.min(65535);
     Slot {
-        configured: true,
-        config: config,
         enabled: true,
-        stalled: false,
-        phase: phase,
-        transfer: transfer,
-        tally: tally,
+        config: Some(EndpointConfig {
+            endpoint,
+            ep_type: EndpointType::Interrupt,
+            max_packet_size: size as u16,
+            interval_ms: 1,
+            max_burst: 0,
+            buffer: Buffer {
+                address: request.own,
+                size,
+            },
+        }),
+        ..fresh_slot()
     }
 }

@@ -6,8 +6,7 @@ use Rattle.tool_moves.specs.declared.asked.Asked.{Asked}
 
 abbrev pub asked_by : List ℕ → Asked
 asked_by line = record {
-  index = held_to 255 (number_at line 1);
-  incoming = nat_lt 0 (number_at line 0);
+  endpoint = record { index = held_to 255 (number_at line 1); incoming = nat_lt 0 (number_at line 0) };
   single = nat_lt 0 (number_at line 2);
   address = number_at line 3;
   length = number_at line 4;
@@ -18,13 +17,4 @@ asked_by line = record {
 
 -- the same from another position on
 abbrev pub from : Asked → ℕ → Asked
-from k position = record {
-  index = k.index;
-  incoming = k.incoming;
-  single = k.single;
-  address = k.address;
-  length = k.length;
-  flag = k.flag;
-  pattern = k.pattern;
-  position = min position 65536;
-}
+from k position = record k { position = min position 65536 }

@@ -1,7 +1,11 @@
 // What a line of `move` or `next` asks for.
-ghost use Rattle.std.specs.Prelude.{◌≡◌, min as least, nat_le};
+ghost use Rattle.std.specs.Prelude.{◌≡◌, Some, None, cond, min as least, nat_le};
 ghost use Rattle.tool_scripts.specs.Script.{number_at};
 ghost use Rattle.tool_moves.specs.Lines.{asked_by, from};
+
+use state::EndpointAddress;
+use tool_arguments::endpoint;
+use tool_scripts::{flag, number};
 
 // The caller's bytes are an array here, so there are no more than this.
 pub const MOST: u32 = 65536;
@@ -9,8 +13,7 @@ pub const MOST: u32 = 65536;
 // `position`: how many bytes the pieces before have moved.
 #[derive(Clone, Copy)]
 pub struct Asked {
-    pub index: u8,
-    pub incoming: bool,
+    pub endpoint: EndpointAddress,
     pub single: bool,
     pub address: u32,
     pub length: u32,
@@ -19,48 +22,40 @@ pub struct Asked {
     pub position: u32,
 }
 
-// Whether the bytes have room.
-pub fn fits(line: &[u8]) -> bool
-    ensures { result ≡ nat_le (number_at line.now 4) 65536 }
+// What a line asks for, if the bytes have room.
+pub fn read(line: &[u8]) -> Option<Asked>
+    ensures { result ≡ cond (nat_le (number_at line.now 4) 65536) (Some (asked_by line.now)) None }
 {
-    let length = tool_scripts::number(line, 4);
-    length <= MOST
-}
-
-pub fn read(line: &[u8]) -> Asked
-    ensures { result ≡ asked_by line.now }
-{
-    let at = tool_arguments::endpoint(line);
-    let single = tool_scripts::flag(line, 2);
-    let address = tool_scripts::number(line, 3);
-    let length = tool_scripts::number(line, 4);
-    let flag = tool_scripts::flag(line, 5);
-    let pattern = tool_scripts::number(line, 6);
-    let position = tool_scripts::number(line, 7);
-    Asked {
-        index: at.index,
-        incoming: at.incoming,
-        single: single,
-        address: address,
-        length: length,
-        flag: flag,
-        pattern: pattern,
-        position: position,
+    let length = number(line, 4);
+    if length <= MOST {
+        return Some(Asked {
+            endpoint: endpoint(line),
+            single: flag(line, 2),
+            address: number(line, 3),
+            length,
+            flag: flag(line, 5),
+            pattern: number(line, 6),
+            position: number(line, 7),
+        });
     }
+    None
 }
 
-// The same from another position on, which is never beyond the bytes.
-pub fn onward(asked: Asked, position: usize) -> Asked
-    ensures { result ≡ from asked position }
-{
-    let mut after = asked;
-    after.position = endpoint_parts::min_usize(position, MOST as usize) as u32;
-    after
-}
+impl Asked {
+    // The same from another position on, which is never beyond the bytes.
+    pub fn onward(self, position: usize) -> Asked
+        ensures { result ≡ from self position }
+    {
+        Asked {
+            position: position.min(MOST as usize) as u32,
+            ..self
+        }
+    }
 
-// How many bytes the caller lends.
-pub fn count(asked: Asked) -> usize
-    ensures { result ≡ least asked.length 65536 }
-{
-    base::min(asked.length, MOST) as usize
+    // How many bytes the caller lends.
+    pub fn count(self) -> usize
+        ensures { result ≡ least self.length 65536 }
+    {
+        self.length.min(MOST) as usize
+    }
 }

@@ -8,47 +8,47 @@ use Rattle.tool_rows.specs.Bytes.{bytes, name_of}
 -- registers
 abbrev pub register_names : List (ℕ × String)
 register_names =
-    (number.link_cfg, "link_cfg") ∷
-    (number.link_ctrl, "link_ctrl") ∷
-    (number.link_int_ctrl, "link_int_ctrl") ∷
-    (number.link_int_flag, "link_int_flag") ∷
-    (number.link_lpm_cr, "link_lpm_cr") ∷
-    (number.link_u1_wkup_tmr, "link_u1_wkup_tmr") ∷
-    (number.link_u1_wkup_filter, "link_u1_wkup_filter") ∷
-    (number.link_u2_wkup_filter, "link_u2_wkup_filter") ∷
-    (number.link_u3_wkup_filter, "link_u3_wkup_filter") ∷
-    (number.link_u2_inact_timer, "link_u2_inact_timer") ∷
-    (number.link_lmp_tx_data, "link_lmp_tx_data") ∷
-    (number.link_lmp_port_cap, "link_lmp_port_cap") ∷
-    (number.phy_cfg_cr, "phy_cfg_cr") ∷
-    (number.phy_cfg_dat, "phy_cfg_dat") ∷
-    (number.unnamed_5003c018, "0x5003C018") ∷
-    (number.usbss_ctrl, "usbss_ctrl") ∷
-    (number.status, "status") ∷
-    (number.uep_tx_en, "uep_tx_en") ∷
-    (number.uep_rx_en, "uep_rx_en") ∷
-    (number.uep0_tx_dma, "uep0_tx_dma") ∷
-    (number.uep0_rx_dma, "uep0_rx_dma") ∷
-    (number.uep0_tx_dma_ofs, "uep0_tx_dma_ofs") ∷
-    (number.uep0_rx_dma_ofs, "uep0_rx_dma_ofs") ∷
-    (number.uep0_tx_ctrl, "uep0_tx_ctrl") ∷
-    (number.uep0_rx_ctrl, "uep0_rx_ctrl") ∷
-    (number.tx_cfg, "tx.cfg") ∷
-    (number.tx_cr, "tx.cr") ∷
-    (number.tx_st, "tx.st") ∷
-    (number.tx_chain_st, "tx.chain_st") ∷
-    (number.tx_dma, "tx.dma") ∷
-    (number.tx_dma_ofs, "tx.dma_ofs") ∷
-    (number.tx_chain_len, "tx.chain_len") ∷
-    (number.tx_chain_exp_nump, "tx.chain_exp_nump") ∷
-    (number.rx_cfg, "rx.cfg") ∷
-    (number.rx_cr, "rx.cr") ∷
-    (number.rx_st, "rx.st") ∷
-    (number.rx_chain_st, "rx.chain_st") ∷
-    (number.rx_dma, "rx.dma") ∷
-    (number.rx_dma_ofs, "rx.dma_ofs") ∷
-    (number.rx_chain_max_nump, "rx.chain_max_nump") ∷
-    (number.delay, "delay") ∷
+    (number.register_number number.link_cfg, "link_cfg") ∷
+    (number.register_number number.link_ctrl, "link_ctrl") ∷
+    (number.register_number number.link_int_ctrl, "link_int_ctrl") ∷
+    (number.register_number number.link_int_flag, "link_int_flag") ∷
+    (number.register_number number.link_lpm_cr, "link_lpm_cr") ∷
+    (number.register_number number.link_u1_wkup_tmr, "link_u1_wkup_tmr") ∷
+    (number.register_number number.link_u1_wkup_filter, "link_u1_wkup_filter") ∷
+    (number.register_number number.link_u2_wkup_filter, "link_u2_wkup_filter") ∷
+    (number.register_number number.link_u3_wkup_filter, "link_u3_wkup_filter") ∷
+    (number.register_number number.link_u2_inact_timer, "link_u2_inact_timer") ∷
+    (number.register_number number.link_lmp_tx_data, "link_lmp_tx_data") ∷
+    (number.register_number number.link_lmp_port_cap, "link_lmp_port_cap") ∷
+    (number.register_number number.phy_cfg_cr, "phy_cfg_cr") ∷
+    (number.register_number number.phy_cfg_dat, "phy_cfg_dat") ∷
+    (number.register_number number.unnamed_5003c018, "0x5003C018") ∷
+    (number.register_number number.usbss_ctrl, "usbss_ctrl") ∷
+    (number.register_number number.status, "status") ∷
+    (number.register_number number.uep_tx_en, "uep_tx_en") ∷
+    (number.register_number number.uep_rx_en, "uep_rx_en") ∷
+    (number.register_number number.uep0_tx_dma, "uep0_tx_dma") ∷
+    (number.register_number number.uep0_rx_dma, "uep0_rx_dma") ∷
+    (number.register_number number.uep0_tx_dma_ofs, "uep0_tx_dma_ofs") ∷
+    (number.register_number number.uep0_rx_dma_ofs, "uep0_rx_dma_ofs") ∷
+    (number.register_number number.uep0_tx_ctrl, "uep0_tx_ctrl") ∷
+    (number.register_number number.uep0_rx_ctrl, "uep0_rx_ctrl") ∷
+    (number.register_number number.tx_cfg, "tx.cfg") ∷
+    (number.register_number number.tx_cr, "tx.cr") ∷
+    (number.register_number number.tx_st, "tx.st") ∷
+    (number.register_number number.tx_chain_st, "tx.chain_st") ∷
+    (number.register_number number.tx_dma, "tx.dma") ∷
+    (number.register_number number.tx_dma_ofs, "tx.dma_ofs") ∷
+    (number.register_number number.tx_chain_len, "tx.chain_len") ∷
+    (number.register_number number.tx_chain_exp_nump, "tx.chain_exp_nump") ∷
+    (number.register_number number.rx_cfg, "rx.cfg") ∷
+    (number.register_number number.rx_cr, "rx.cr") ∷
+    (number.register_number number.rx_st, "rx.st") ∷
+    (number.register_number number.rx_chain_st, "rx.chain_st") ∷
+    (number.register_number number.rx_dma, "rx.dma") ∷
+    (number.register_number number.rx_dma_ofs, "rx.dma_ofs") ∷
+    (number.register_number number.rx_chain_max_nump, "rx.chain_max_nump") ∷
+    (number.register_number number.delay, "delay") ∷
     []
 
 -- enumerated values

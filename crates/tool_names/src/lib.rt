@@ -1,83 +1,70 @@
-// The names of registers and enumerated values, as ASCII bytes, for the numbers in the records of register operations.
+// The names of registers and enumerated values, for the numbers in the records of register operations.
 #![tactic(auto)]
 
-ghost use Rattle.std.specs.Prelude.{◌+◌, ◌≤◌, length};
-ghost use Rattle.ops.specs.Stores.{Stored};
+ghost use Rattle.std.specs.Prelude.{◌≡◌, ◌≤◌, length};
 ghost use Rattle.tool_rows.specs.Bytes.{room};
 ghost use Rattle.tool_names.specs.Names.{register_name, value_name};
 
-use tool_rows::Row;
-
-// A table has the name of each number in the row of that number. Zero names nothing.
-const REGISTERS: [Row; 42] = [
-    *b"                    ",
-    *b"link_cfg            ",
-    *b"link_ctrl           ",
-    *b"link_int_ctrl       ",
-    *b"link_int_flag       ",
-    *b"link_lpm_cr         ",
-    *b"link_u1_wkup_tmr    ",
-    *b"link_u1_wkup_filter ",
-    *b"link_u2_wkup_filter ",
-    *b"link_u3_wkup_filter ",
-    *b"link_u2_inact_timer ",
-    *b"link_lmp_tx_data    ",
-    *b"link_lmp_port_cap   ",
-    *b"phy_cfg_cr          ",
-    *b"phy_cfg_dat         ",
-    *b"0x5003C018          ",
-    *b"usbss_ctrl          ",
-    *b"status              ",
-    *b"uep_tx_en           ",
-    *b"uep_rx_en           ",
-    *b"uep0_tx_dma         ",
-    *b"uep0_rx_dma         ",
-    *b"uep0_tx_dma_ofs     ",
-    *b"uep0_rx_dma_ofs     ",
-    *b"uep0_tx_ctrl        ",
-    *b"uep0_rx_ctrl        ",
-    *b"tx.cfg              ",
-    *b"tx.cr               ",
-    *b"tx.st               ",
-    *b"tx.chain_st         ",
-    *b"tx.dma              ",
-    *b"tx.dma_ofs          ",
-    *b"tx.chain_len        ",
-    *b"tx.chain_exp_nump   ",
-    *b"rx.cfg              ",
-    *b"rx.cr               ",
-    *b"rx.st               ",
-    *b"rx.chain_st         ",
-    *b"rx.dma              ",
-    *b"rx.dma_ofs          ",
-    *b"rx.chain_max_nump   ",
-    *b"delay               ",
+// The place of a name is its number. Zero names nothing.
+const REGISTERS: [&str; 42] = [
+    "",
+    "link_cfg",
+    "link_ctrl",
+    "link_int_ctrl",
+    "link_int_flag",
+    "link_lpm_cr",
+    "link_u1_wkup_tmr",
+    "link_u1_wkup_filter",
+    "link_u2_wkup_filter",
+    "link_u3_wkup_filter",
+    "link_u2_inact_timer",
+    "link_lmp_tx_data",
+    "link_lmp_port_cap",
+    "phy_cfg_cr",
+    "phy_cfg_dat",
+    "0x5003C018",
+    "usbss_ctrl",
+    "status",
+    "uep_tx_en",
+    "uep_rx_en",
+    "uep0_tx_dma",
+    "uep0_rx_dma",
+    "uep0_tx_dma_ofs",
+    "uep0_rx_dma_ofs",
+    "uep0_tx_ctrl",
+    "uep0_rx_ctrl",
+    "tx.cfg",
+    "tx.cr",
+    "tx.st",
+    "tx.chain_st",
+    "tx.dma",
+    "tx.dma_ofs",
+    "tx.chain_len",
+    "tx.chain_exp_nump",
+    "rx.cfg",
+    "rx.cr",
+    "rx.st",
+    "rx.chain_st",
+    "rx.dma",
+    "rx.dma_ofs",
+    "rx.chain_max_nump",
+    "delay",
 ];
 
-const VALUES: [Row; 7] = [
-    *b"                    ",
-    *b"ACK                 ",
-    *b"DPH                 ",
-    *b"NRDY                ",
-    *b"STALL               ",
-    *b"P2                  ",
-    *b"DB3_5               ",
-];
+const VALUES: [&str; 7] = ["", "ACK", "DPH", "NRDY", "STALL", "P2", "DB3_5"];
 
-// The name of a register, stored from `at` on: the end position.
-pub fn register_name(out: &mut [u8], at: usize, number: u32) -> usize
-    requires { at + room ≤ length out.old }
-    ensures stored { Stored out.old at (register_name number) result out.new }
-    ensures upper_bound { result ≤ at + room }
+// The name of a register.
+pub fn register_name(number: u32) -> &'static str
+    ensures name { result.now ≡ register_name number }
+    ensures has_room { length result.now ≤ room }
 {
-    tool_rows::store(out, at, &REGISTERS, number)
+    tool_rows::name(&REGISTERS, number)
 }
 
-// The name of an enumerated value, stored likewise.
-pub fn value_name(out: &mut [u8], at: usize, number: u32) -> usize
-    requires { at + room ≤ length out.old }
-    ensures stored { Stored out.old at (value_name number) result out.new }
-    ensures upper_bound { result ≤ at + room }
+// The name of an enumerated value.
+pub fn value_name(number: u32) -> &'static str
+    ensures name { result.now ≡ value_name number }
+    ensures has_room { length result.now ≤ room }
 {
-    tool_rows::store(out, at, &VALUES, number)
+    tool_rows::name(&VALUES, number)
 }

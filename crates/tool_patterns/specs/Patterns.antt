@@ -1,6 +1,7 @@
 -- The pattern that fills lent bytes, and the sum of bytes (docs/REPLAY.md).
 -- Assumes nothing.
-use Rattle.std.specs.Prelude.{ℕ, ◌+◌, ◌*◌, ◌/◌, ◌%◌, ◌^◌, List, [], ◌∷◌, length}
+use Rattle.std.specs.Prelude.{ℕ, ◌+◌, ◌*◌, ◌/◌, ◌%◌, ◌^◌, List, length}
+use Rattle.std.specs.List.{fold}
 use Rattle.base.specs.Each.{change}
 
 -- byte i of a pattern
@@ -15,9 +16,5 @@ filled pattern bytes = change (λ i byte. pattern_byte pattern i) (length bytes)
 abbrev pub with_byte : ℕ → ℕ → ℕ
 with_byte sum byte = (sum * 31 + byte) % 2 ^ 32
 
-abbrev pub sum_from : ℕ → List ℕ → ℕ
-sum_from sum [] = sum
-sum_from sum (byte ∷ bytes) = sum_from (with_byte sum byte) bytes
-
 abbrev pub sum_of : List ℕ → ℕ
-sum_of bytes = sum_from 0 bytes
+sum_of bytes = fold with_byte 0 bytes

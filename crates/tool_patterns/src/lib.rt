@@ -15,27 +15,19 @@ fn pattern_byte(pattern: u32, i: usize) -> u8
 pub fn fill(bytes: &mut [u8], pattern: u32)
     ensures { bytes.new ≡ filled pattern bytes.old }
 {
-    let mut i: usize = 0;
-    while i < bytes.len() {
-        bytes[i] = pattern_byte(pattern, i);
-        i = i + 1;
+    for (i, byte) in bytes.iter_mut().enumerate() {
+        *byte = pattern_byte(pattern, i);
     }
 }
 
 fn with_byte(sum: u32, byte: u8) -> u32
     ensures { result ≡ with_byte sum byte }
 {
-    ((sum as u64 * 31 + byte as u64) % 0x1_0000_0000) as u32
+    sum.wrapping_mul(31).wrapping_add(byte as u32)
 }
 
 pub fn sum(bytes: &[u8]) -> u32
     ensures { result ≡ sum_of bytes.now }
 {
-    let mut sum: u32 = 0;
-    let mut i: usize = 0;
-    while i < bytes.len() {
-        sum = with_byte(sum, bytes[i]);
-        i = i + 1;
-    }
-    sum
+    bytes.iter().fold(0, |sum, byte| with_byte(sum, *byte))
 }

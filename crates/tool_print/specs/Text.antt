@@ -1,10 +1,10 @@
--- Text put into a buffer.
+-- Text put behind text.
 -- Assumes nothing.
-use Rattle.std.specs.Prelude.{ℕ, ◌-◌, List}
+use Rattle.std.specs.Prelude.{ℕ, ◌≡◌, List, ◌++◌}
 use Rattle.io.specs.Digits.{last_digits, IsDigitCount}
-use Rattle.ops.specs.Stores.{Stored}
 
--- the decimal digits of n, as few as hold it, stand from `at` up to r
-pub record NumberStored (l : List ℕ) (at n r : ℕ) (l' : List ℕ) : Type 0 where
-  pub fewest : IsDigitCount 10 1 n (r - at)
-  pub text : Stored l at (last_digits 10 (r - at) n) r l'
+-- the decimal digits of n, as few as hold it, stand behind what was there before
+pub record NumberBehind (before : List ℕ) (n : ℕ) (after : List ℕ) : Type 0 where
+  pub count : ℕ
+  pub fewest : IsDigitCount 10 1 n count
+  pub text : after ≡ before ++ last_digits 10 count n

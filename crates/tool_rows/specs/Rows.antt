@@ -1,34 +1,24 @@
--- Tables of names: a row for each number from 0 on, which has a name and then blanks. One test, computed over a whole table,
--- shows that each row has the name of its number.
+-- Tables of names: the place of a name is its number. One test, computed over a whole table, shows that each has the name of
+-- its number, and that it has room.
 -- Assumes nothing.
-use Rattle.std.specs.Prelude.{ℕ, suc, Bool, true, false, cond, ◌&&◌, List, [], ◌∷◌, eqb, ltb, get_or}
+use Rattle.std.specs.Prelude.{ℕ, zero, suc, Bool, true, ◌&&◌, List, [], ◌∷◌, ltb, leb, length}
+use Rattle.std.specs.Borrow.{Bor}
+use Rattle.std.specs.Str.{bytes_eq}
 use Prim.Native.String.{String}
-use Rattle.tool_rows.specs.Bytes.{bytes, name_of}
+use Rattle.tool_rows.specs.Bytes.{room, bytes, name_of}
 
-abbrev pub blank : ℕ
-blank = 32
-
--- the bytes of a row up to its first blank
-abbrev pub row_name : List ℕ → List ℕ
-row_name [] = []
-row_name (b ∷ row) = cond (eqb b blank) [] (b ∷ row_name row)
-
--- the name in row n of a table
-unfoldable pub name_at : List (List ℕ) → ℕ → List ℕ
-name_at rows n = row_name (get_or rows n [])
-
-abbrev pub same_bytes : List ℕ → List ℕ → Bool
-same_bytes [] [] = true
-same_bytes [] (y ∷ b) = false
-same_bytes (x ∷ a) [] = false
-same_bytes (x ∷ a) (y ∷ b) = eqb x y && same_bytes a b
+-- the bytes of the name with number n in a table; none past its end
+unfoldable pub name_at : List (Bor (List ℕ)) → ℕ → List ℕ
+name_at [] n = []
+name_at (name ∷ names) zero = name.now
+name_at (name ∷ names) (suc n) = name_at names n
 
 -- no name has a number from n on
 abbrev pub all_below : ℕ → List (ℕ × String) → Bool
 all_below n [] = true
 all_below n ((k, name) ∷ names) = ltb k n && all_below n names
 
--- the test of a table's rows from row i on: each has the name of its number, and there are no names past the last
-abbrev pub right : List (ℕ × String) → ℕ → List (List ℕ) → Bool
+-- the test of a table from number i on: each name is that of its number, has room, and there are none past the last
+abbrev pub right : List (ℕ × String) → ℕ → List (Bor (List ℕ)) → Bool
 right names i [] = all_below i names
-right names i (row ∷ rows) = same_bytes (row_name row) (bytes (name_of i names)) && right names (suc i) rows
+right names i (name ∷ rows) = (bytes_eq name.now (bytes (name_of i names)) && leb (length name.now) room) && right names (suc i) rows

@@ -1,10 +1,8 @@
 -- The numbers of a line, read one behind the other.
 -- Assumes nothing.
-use Rattle.std.specs.Prelude.{ℕ, ◌-◌, List, ◌≡◌, drop}
-use Rattle.tool_lines.specs.Line.{fields}
-use Rattle.tool_lines.specs.Fields.{rest}
+use Rattle.std.specs.Prelude.{ℕ, ◌-◌, List, ◌≡◌}
 use Rattle.tool_scripts.specs.Script.{numbers_fit}
 
--- the fields from `at` on decide, after i numbers
-pub record Left (line : List ℕ) (most at i : ℕ) : Type 0 where
-  pub decides : numbers_fit most (drop 1 (fields line)) ≡ numbers_fit (most - i) (rest line at)
+-- the fields that are left decide, after i numbers
+pub record Left (all : List (List ℕ)) (most i : ℕ) (left : List (List ℕ)) : Type 0 where
+  pub decides : numbers_fit most all ≡ numbers_fit (most - i) left

@@ -1,6 +1,6 @@
 -- What a line of a script asks for (docs/REPLAY.md, the tables of words).
 -- Assumes nothing.
-use Rattle.std.specs.Prelude.{ℕ, ◌+◌, Bool, cond, ◌&&◌, List, [], ltb, leb, length, get_or, drop}
+use Rattle.std.specs.Prelude.{ℕ, ◌+◌, Bool, cond, ◌&&◌, List, [], leb, min, length, get_or, drop}
 use Rattle.tool_lines.specs.Line.{fields, allb, numberb}
 use Rattle.tool_lines.specs.Digits.{value_of}
 use Rattle.tool_words.specs.declared.Word.{Word}
@@ -13,7 +13,7 @@ number_at line k = value_of (get_or (fields line) (k + 1) [])
 
 -- a number held to the most that its use has room for
 abbrev pub held_to : ℕ → ℕ → ℕ
-held_to most n = cond (ltb most n) most n
+held_to most n = min n most
 
 -- the fields behind a word are numbers, and no more than the call takes
 unfoldable pub numbers_fit : ℕ → List (List ℕ) → Bool

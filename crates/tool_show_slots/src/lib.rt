@@ -1,67 +1,69 @@
 // A line for each slot, as docs/REPLAY.md has it.
 #![tactic(auto)]
 
+ghost use Rattle.std.specs.Prelude.{◌+◌, ◌≤◌, length};
+
 use state::{EndpointConfig, EndpointType, Phase, Slot, State, Transfer};
-use tool_cells::{flag, number, text};
+use tool_print::Line;
 
 pub fn lines(rt: &impl Print, state: State) {
-    let mut i: u8 = 0;
-    while i < 16 {
-        let slot = state_slots::slot_at(state, i as usize);
-        line(rt, i, slot);
-        i = i + 1;
+    for i in 0..16 {
+        line(rt, i as u32, state.endpoints[i]);
     }
 }
 
-fn line(rt: &impl Print, i: u8, slot: Slot) {
-    text(rt, b"slot");
-    number(rt, i as u32);
-    flag(rt, slot.configured);
-    flag(rt, slot.enabled);
-    flag(rt, slot.stalled);
-    let phase = slot.phase;
-    phase_number(rt, phase);
-    let transfer = slot.transfer;
-    in_hand(rt, transfer);
-    let config = slot.config;
-    perhaps(rt, slot.configured, config);
-    text(rt, b"\n");
+fn line(rt: &impl Print, i: u32, slot: Slot) {
+    let mut line = Line::<180>::new();
+    line.text(b"slot");
+    line.cell(i);
+    line.cell(slot.config.is_some() as u32);
+    line.cell(slot.enabled as u32);
+    line.cell(slot.stalled as u32);
+    line.cell(phase_number(slot.phase));
+    in_hand(&mut line, slot.transfer);
+    match slot.config {
+        Some(config) => configured(&mut line, config),
+        None => line.text(b"\t0\t0\t0\t0\t0\t0"),
+    }
+    line.text(b"\n");
+    line.write(rt);
 }
 
-fn phase_number(rt: &impl Print, phase: Phase) {
+fn phase_number(phase: Phase) -> u32 {
     match phase {
-        Phase::Idle => number(rt, 0),
-        Phase::Busy => number(rt, 1),
-        Phase::Done => number(rt, 2),
+        Phase::Idle => 0,
+        Phase::Busy => 1,
+        Phase::Done => 2,
     }
 }
 
-fn in_hand(rt: &impl Print, transfer: Transfer) {
-    number(rt, transfer.address);
-    number(rt, transfer.length);
-    number(rt, transfer.progress);
-    flag(rt, transfer.zlp);
+fn in_hand(line: &mut Line<180>, transfer: Transfer)
+    requires { length line.old + 44 ≤ 180 }
+    ensures { length line.new ≤ length line.old + 44 }
+{
+    line.cell(transfer.address);
+    line.cell(transfer.length);
+    line.cell(transfer.progress);
+    line.cell(transfer.zlp as u32);
 }
 
-fn perhaps(rt: &impl Print, configured: bool, config: EndpointConfig) {
-    if configured {
-        let kind = config.ep_type;
-        kind_number(rt, kind);
-        number(rt, config.max_packet_size as u32);
-        number(rt, config.interval_ms as u32);
-        number(rt, config.max_burst as u32);
-        number(rt, config.buffer.address);
-        number(rt, config.buffer.size);
-        return;
-    }
-    text(rt, b"\t0\t0\t0\t0\t0\t0");
+fn configured(line: &mut Line<180>, config: EndpointConfig)
+    requires { length line.old + 66 ≤ 180 }
+    ensures { length line.new ≤ length line.old + 66 }
+{
+    line.cell(kind_number(config.ep_type));
+    line.cell(config.max_packet_size as u32);
+    line.cell(config.interval_ms as u32);
+    line.cell(config.max_burst as u32);
+    line.cell(config.buffer.address);
+    line.cell(config.buffer.size);
 }
 
-fn kind_number(rt: &impl Print, kind: EndpointType) {
+fn kind_number(kind: EndpointType) -> u32 {
     match kind {
-        EndpointType::Control => number(rt, 0),
-        EndpointType::Isochronous => number(rt, 1),
-        EndpointType::Bulk => number(rt, 2),
-        EndpointType::Interrupt => number(rt, 3),
+        EndpointType::Control => 0,
+        EndpointType::Isochronous => 1,
+        EndpointType::Bulk => 2,
+        EndpointType::Interrupt => 3,
     }
 }

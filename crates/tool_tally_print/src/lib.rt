@@ -2,37 +2,26 @@
 #![tactic(auto)]
 
 use state::{State, Tally};
-use tool_cells::{number, text};
+use tool_cells::text;
+use tool_print::Line;
 
 pub fn tallies(rt: &impl Print, state: State) {
     text(rt, b"slot\tbegun\tfinished\tcut\tbytes\n");
-    let mut i: usize = 0;
-    while i < 16 {
-        let slot = state_slots::slot_at(state, i);
-        let tally = slot.tally;
-        perhaps(rt, slot.configured, i, tally);
-        i = i + 1;
+    for i in 0..16 {
+        let slot = state.endpoints[i];
+        if slot.config.is_some() {
+            line(rt, i as u32, slot.tally);
+        }
     }
 }
 
-fn perhaps(rt: &impl Print, configured: bool, i: usize, tally: Tally) {
-    if configured {
-        line(rt, i, tally);
-    }
-}
-
-fn line(rt: &impl Print, i: usize, tally: Tally) {
-    decimal(rt, i as u64);
-    number(rt, tally.begun);
-    number(rt, tally.finished);
-    number(rt, tally.cut);
-    number(rt, tally.bytes);
-    text(rt, b"\n");
-}
-
-// A number's digits, with nothing around them.
-fn decimal(rt: &impl Print, n: u64) {
-    let mut digits = [0u8; 20];
-    let count = io::decimal(n, &mut digits);
-    text(rt, &digits[..count]);
+fn line(rt: &impl Print, i: u32, tally: Tally) {
+    let mut line = Line::<60>::new();
+    line.number(i);
+    line.cell(tally.begun);
+    line.cell(tally.finished);
+    line.cell(tally.cut);
+    line.cell(tally.bytes);
+    line.text(b"\n");
+    line.write(rt);
 }

@@ -3,10 +3,31 @@
 
 ghost use Rattle.std.specs.Prelude.{◌≡◌};
 
-use state::{Events, State};
+use state::{EndpointAddress, Events, State};
+use transfer_chain::Report;
+use transfer_piece::Piece;
 
 // Where the buffers of the transfers lie.
 const BUFFER: u32 = 0x200B_0000;
+
+// An endpoint for what it sends, and for what it receives.
+pub fn sending(index: u8) -> EndpointAddress
+    ensures { result ≡ record { index = index; incoming = true } }
+{
+    EndpointAddress {
+        index,
+        incoming: true,
+    }
+}
+
+pub fn receiving(index: u8) -> EndpointAddress
+    ensures { result ≡ record { index = index; incoming = false } }
+{
+    EndpointAddress {
+        index,
+        incoming: false,
+    }
+}
 
 // What is pending throughout.
 pub fn pending() -> Events
@@ -20,55 +41,43 @@ pub fn pending() -> Events
 pub fn enabled(
     list: &mut [u32; 640],
     state: State,
-    index: u8,
-    incoming: bool,
+    endpoint: EndpointAddress,
     enabled: bool,
 ) -> State {
-    let events = pending();
-    let order = bus_order::endpoint_set_enabled(list, state, events, index, incoming, enabled);
-    order.state
+    bus_order::endpoint_set_enabled(list, state, pending(), endpoint, enabled).state
 }
 
 pub fn stalled(
     list: &mut [u32; 640],
     state: State,
-    index: u8,
-    incoming: bool,
+    endpoint: EndpointAddress,
     stalled: bool,
 ) -> State {
-    let events = pending();
-    let order = bus_order::endpoint_set_stalled(list, state, events, index, incoming, stalled);
-    order.state
+    bus_order::endpoint_set_stalled(list, state, pending(), endpoint, stalled).state
 }
 
-pub fn begun(list: &mut [u32; 640], state: State, index: u8, incoming: bool, length: u32) -> State {
-    let events = pending();
-    let begin = transfer_begin::begin(
-        list, state, events, index, incoming, BUFFER, length, false, false, false,
-    );
-    begin.state
+pub fn begun(list: &mut [u32; 640], state: State, endpoint: EndpointAddress, length: u32) -> State {
+    let piece = Piece {
+        address: BUFFER,
+        length,
+        zlp: false,
+    };
+    transfer_begin::begin(list, state, pending(), endpoint, piece, false, false).state
 }
 
-pub fn taken(state: State, index: u8, incoming: bool) -> State {
-    let events = pending();
-    let take = transfer_take::take(state, events, index, incoming, false, u32::MAX);
-    take.state
+pub fn taken(state: State, endpoint: EndpointAddress) -> State {
+    transfer_take::take(state, pending(), endpoint, false, u32::MAX).state
 }
 
-pub fn abandoned(list: &mut [u32; 640], state: State, index: u8, incoming: bool) -> State {
-    let events = pending();
-    let given_up = transfer_abandon::abandon(list, state, events, index, incoming);
-    given_up.state
+pub fn abandoned(list: &mut [u32; 640], state: State, endpoint: EndpointAddress) -> State {
+    transfer_abandon::abandon(list, state, pending(), endpoint).state
 }
 
 pub fn reported(
     list: &mut [u32; 640],
     state: State,
-    index: u8,
-    incoming: bool,
-    packets: u32,
-    last: u32,
+    endpoint: EndpointAddress,
+    report: Report,
 ) -> State {
-    let report = transfer_report::report(list, 0, state, index, incoming, packets, last);
-    report.state
+    transfer_report::report(list, 0, state, endpoint, report).state
 }

@@ -1,27 +1,37 @@
--- Tables of names as the code has them: a row has a name and then blanks.
+-- The table of words as the code has it: a word, its call, and how many numbers that takes at most.
 -- Assumes nothing.
-use Rattle.std.specs.Prelude.{ℕ, suc, cond, List, [], ◌∷◌, map, ◌≡◌, get_or, take}
+use Rattle.std.specs.Prelude.{ℕ, List, Option, Some, None, map, ◌≡◌}
+use Rattle.std.specs.Borrow.{Bor}
+use Rattle.std.specs.List.{find}
 use Rattle.tool_lines.specs.Line.{sameb}
-use Rattle.tool_lines.specs.Search.{seek}
-use Rattle.tool_words.specs.declared.Meant.{Meant}
+use Rattle.tool_words.specs.declared.Word.{Word}
 use Rattle.tool_words.specs.declared.Word.TheVariants.{Unfit}
-use Rattle.tool_words.specs.Words.{◌taking◌, Row}
+use Rattle.tool_words.specs.declared.Meant.{Meant}
+use Rattle.tool_words.specs.Words.{bytes, ◌taking◌, Row}
 
-abbrev pub blank : ℕ
-blank = 32
+abbrev pub TableRow : Type 0
+TableRow = Bor (List ℕ) × Word × ℕ
 
--- the bytes of a row up to its first blank
-abbrev pub row_name : List ℕ → List ℕ
-row_name row = take (seek row 0 blank) row
+abbrev pub Shown : Type 0
+Shown = List ℕ × Meant
 
--- the first row that has this word, or how many rows there are
-abbrev pub place_in : List ℕ → List (List ℕ) → ℕ
-place_in word [] = 0
-place_in word (row ∷ rows) = cond (sameb word (row_name row)) 0 (suc (place_in word rows))
+abbrev pub seen : TableRow → Shown
+seen row = (row.0.now, row.1 taking row.2)
 
-pub record Placed (word : List ℕ) (names : List (List ℕ)) (place : ℕ) : Type 0 where
-  pub is : place ≡ place_in word names
+abbrev pub shown : Row → Shown
+shown row = (bytes row.name, row.meant)
 
--- what row k says
-abbrev pub meant_at : List Row → ℕ → Meant
-meant_at rows k = get_or (map (λ (row : Row). row.meant) rows) k (Unfit taking 0)
+abbrev pub meant_by : Option TableRow → Meant
+meant_by None = Unfit taking 0
+meant_by (Some row) = row.1 taking row.2
+
+-- the first row with this word, and what it says
+abbrev pub first_in : List ℕ → List TableRow → Option TableRow
+first_in word table = find (λ (row : TableRow). sameb word row.0.now) table
+
+unfoldable pub named_in : List ℕ → List TableRow → Meant
+named_in word table = meant_by (first_in word table)
+
+-- the code's table has the rows in their sequence
+abbrev pub HasRows : List TableRow → List Row → Type 0
+HasRows table rows = map seen table ≡ map shown rows

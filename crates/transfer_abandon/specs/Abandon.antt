@@ -1,9 +1,10 @@
 -- Abandoning a transfer (reference: the `OnDrop` of `run` in endpoint.rs).
 -- Assumes nothing.
-use Rattle.std.specs.Prelude.{ℕ, Bool, true, ◌&&◌, not, cond, List, [], ◌∷◌}
+use Rattle.std.specs.Prelude.{ℕ, Bool, true, ◌&&◌, not, cond, List, [], ◌∷◌, Err, Result, Ok}
 use Rattle.state.specs.declared.Slot.{Slot}
 use Rattle.state.specs.declared.State.{State}
 use Rattle.state.specs.declared.Events.{Events}
+use Rattle.state.specs.declared.Refusal.{Refusal}
 use Rattle.state.specs.declared.Refusal.TheVariants.{NoDataEndpoint}
 use Rattle.state.specs.Setters.{with_slot}
 use Rattle.state.specs.Numbers.{refusal_number}
@@ -13,8 +14,6 @@ use Rattle.state_slots.specs.Waking.{no_wakes}
 use Rattle.state_call.specs.Turn.{admitted}
 use Rattle.state_call.specs.Outcome.{Outcome, or_else, unless}
 use Rattle.regs_endpoint.specs.Endpoint.{abort_busy_ops}
-use Rattle.transfer_abandon.specs.declared.AbandonAnswer.{AbandonAnswer}
-use Rattle.transfer_abandon.specs.declared.AbandonAnswer.TheVariants as abandon
 
 -- 7
 abbrev pub abandon_own : ℕ → List Condition
@@ -27,17 +26,17 @@ abandon_conditions room s v e = admitted room s v (abandon_own e)
 abbrev pub settle_time : Bool → Bool → ℕ
 settle_time incoming busy = cond (incoming && busy) 100 0
 
-abbrev pub abandon_answer : Bool → Slot → AbandonAnswer
-abandon_answer incoming x = abandon.Abandoned (settle_time incoming (busyb x.phase))
+abbrev pub abandon_answer : Bool → Slot → Result ℕ Refusal
+abandon_answer incoming x = Ok (settle_time incoming (busyb x.phase))
 
 -- the slot is idle; what was in hand is cut
 abbrev pub abandoned_slot : Slot → Slot
 abandoned_slot x = forgotten x true x.enabled x.stalled
 
 -- a busy transfer's chain is aborted
-unfoldable pub abandon_call : ℕ → State → Events → ℕ → Bool → Outcome AbandonAnswer
+unfoldable pub abandon_call : ℕ → State → Events → ℕ → Bool → Outcome (Result ℕ Refusal)
 abandon_call room s v e incoming =
-    unless abandon.Refused (first_refusal (abandon_conditions room s v e)) s v
+    unless Err (first_refusal (abandon_conditions room s v e)) s v
     (record {
       answer = abandon_answer incoming (slot_of s e incoming);
       state = with_slot s (slot_number e incoming) (abandoned_slot (slot_of s e incoming));
@@ -48,9 +47,9 @@ abandon_call room s v e incoming =
     })
 
 -- the numbers of an answer: a refusal's, or 0 and the microseconds that are due
-abbrev pub abandon_numbers : AbandonAnswer → List ℕ
-abandon_numbers (abandon.Refused r) = refusal_number r ∷ []
-abandon_numbers (abandon.Abandoned n) = 0 ∷ n ∷ []
+abbrev pub abandon_numbers : Result ℕ Refusal → List ℕ
+abandon_numbers (Err r) = refusal_number r ∷ []
+abandon_numbers (Ok n) = 0 ∷ n ∷ []
 
 abbrev pub abandon_says : ℕ → State → Events → ℕ → Bool → List ℕ
 abandon_says room s v e incoming =

@@ -1,12 +1,12 @@
 -- Beginning a transfer (reference: `run` of endpoint.rs, `start` of device.rs).
 -- Assumes nothing.
-use Rattle.std.specs.Prelude.{ℕ, Bool, List, [], ◌++◌}
+use Rattle.std.specs.Prelude.{ℕ, Bool, List, [], ◌++◌, Err, Result, Ok}
 use Rattle.ops.specs.Ops.{Op}
 use Rattle.state.specs.declared.Slot.{Slot}
 use Rattle.state.specs.declared.State.{State}
 use Rattle.state.specs.declared.Events.{Events}
+use Rattle.state.specs.declared.Refusal.{Refusal}
 use Rattle.state.specs.Setters.{with_slot, limit_of}
-use Rattle.state.specs.Numbers.{refusal_number}
 use Rattle.state.specs.Refusals.{Condition, first_refusal}
 use Rattle.state_slots.specs.Slots.{slot_number, slot_of}
 use Rattle.state_slots.specs.Waking.{no_wakes}
@@ -14,9 +14,8 @@ use Rattle.state_call.specs.Turn.{admitted}
 use Rattle.state_call.specs.Outcome.{Outcome, unless}
 use Rattle.transfer_chain.specs.Chains.{queued_slot, queue_ops}
 use Rattle.transfer_window.specs.Window.{windows_ops}
-use Rattle.transfer_begin.specs.declared.BeginAnswer.{BeginAnswer}
-use Rattle.transfer_begin.specs.declared.BeginAnswer.TheVariants as begin
-use Rattle.transfer_piece.specs.Piece.{Piece, begin_own, begun_slot}
+use Rattle.transfer_piece.specs.declared.Piece.{Piece}
+use Rattle.transfer_piece.specs.Piece.{begin_own, begun_slot}
 
 abbrev pub begin_conditions : ℕ → State → Events → ℕ → Bool → Piece → Bool → Bool → List Condition
 begin_conditions room s v e incoming p long unfit =
@@ -36,12 +35,7 @@ in_hand_state s e incoming p = with_slot s (slot_number e incoming) (begun_at s 
 abbrev pub begun_ops : State → ℕ → Bool → Piece → List Op
 begun_ops s e incoming p = windows_ops (in_hand_state s e incoming p) ++ queue_ops (limit_of s) e incoming (begun_at s e incoming p)
 
-unfoldable pub begin_call : ℕ → State → Events → ℕ → Bool → Piece → Bool → Bool → Outcome BeginAnswer
+unfoldable pub begin_call : ℕ → State → Events → ℕ → Bool → Piece → Bool → Bool → Outcome (Result Unit Refusal)
 begin_call room s v e incoming p long unfit =
-    unless begin.Refused (first_refusal (begin_conditions room s v e incoming p long unfit)) s v
-    (record { answer = begin.Begun; state = begun_state s e incoming p; events = v; ops = begun_ops s e incoming p; wakes = no_wakes; copied = [] })
-
--- the number of an answer: 0 for a transfer begun, else the refusal's
-abbrev pub begin_number : BeginAnswer → ℕ
-begin_number begin.Begun = 0
-begin_number (begin.Refused r) = refusal_number r
+    unless Err (first_refusal (begin_conditions room s v e incoming p long unfit)) s v
+    (record { answer = Ok tt; state = begun_state s e incoming p; events = v; ops = begun_ops s e incoming p; wakes = no_wakes; copied = [] })

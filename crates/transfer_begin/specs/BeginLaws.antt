@@ -1,6 +1,6 @@
 -- Beginning: the slot in its place is the call's, and its number is the paper's.
 -- Assumes nothing.
-use Rattle.std.specs.Prelude.{ℕ, ◌≡◌, refl, Bool, true, ◌||◌, not, [], ◌++◌, ltb}
+use Rattle.std.specs.Prelude.{ℕ, ◌≡◌, refl, Bool, true, ◌||◌, not, [], ◌++◌, ltb, Ok, Err}
 use Rattle.std.proofs.Common.{ap, set-set}
 use Rattle.std.proofs.lemmas.Bool.{not-false}
 use Rattle.ops.specs.Ops.{list_numbers}
@@ -9,11 +9,10 @@ use Rattle.state.specs.declared.State.{State}
 use Rattle.state.specs.declared.Events.{Events}
 use Rattle.state.specs.declared.Refusal.{Refusal}
 use Rattle.state.specs.declared.Refusal.TheVariants.{ListTooShort, Unsound, OutOfTurn, TooLong, Disabled, InHand, UnfitBuffer}
-use Rattle.state.specs.declared.Check.TheVariants.{Fits, Refused}
 use Rattle.state.specs.Fresh.{slot_at}
 use Rattle.state.specs.Setters.{with_slot, limit_of}
 use Rattle.state.specs.Awaiting.{awaitingb}
-use Rattle.state.specs.Numbers.{check_number}
+use Rattle.state.specs.Numbers.{check_number, refusal_number}
 use Rattle.state.specs.Refusals.{refuse_if, first_refusal, Bound}
 use Rattle.state.specs.RefusalsLaws.{none_due, not_due, bound}
 use Rattle.state_slots.specs.Slots.{idleb, slot_number, slot_place, slot_of, slot_size, data_endpoint, ready}
@@ -25,9 +24,9 @@ use Rattle.state_call.specs.Outcome.{or_else}
 use Rattle.state_call.specs.OutcomeLaws.{passed, reached}
 use Rattle.transfer_chain.specs.Chains.{queued_slot, queue_ops}
 use Rattle.transfer_window.specs.Window.{windows_ops}
-use Rattle.transfer_begin.specs.declared.BeginAnswer.TheVariants as begin
-use Rattle.transfer_begin.specs.Begin.{begin_conditions, begun_at, begin_call, begin_number}
-use Rattle.transfer_piece.specs.Piece.{Piece, piece_fits, begin_own, begun_slot}
+use Rattle.transfer_begin.specs.Begin.{begin_conditions, begun_at, begin_call}
+use Rattle.transfer_piece.specs.declared.Piece.{Piece}
+use Rattle.transfer_piece.specs.Piece.{piece_fits, begin_own, begun_slot}
 
 module _ (room : ℕ) (s : State) (v : Events) (e : ℕ) (incoming : Bool) (p : Piece) (long unfit : Bool) where
   -- Each refusal is given exactly where it is the first that is due, and none where none is.
@@ -35,7 +34,7 @@ module _ (room : ℕ) (s : State) (v : Events) (e : ℕ) (incoming : Bool) (p : 
   begin_bound = bound (begin_conditions room s v e incoming p long unfit)
 
   -- one that fits is of a data endpoint
-  pub begin_reaches : first_refusal (begin_conditions room s v e incoming p long unfit) ≡ Fits → data_endpoint e ≡ true
+  pub begin_reaches : first_refusal (begin_conditions room s v e incoming p long unfit) ≡ Ok tt → data_endpoint e ≡ true
   begin_reaches h =
       let own = begin_own s.powered e incoming p.address p.length long unfit (slot_of s e incoming) in
       let k = passed room (soundb s v) s.awaited.next own (none_due (begin_conditions room s v e incoming p long unfit) h) in
@@ -50,23 +49,23 @@ module _ (room : ℕ) (s : State) (v : Events) (e : ℕ) (incoming : Bool) (p : 
       (λ x. refuse_if long TooLong
       (refuse_if (not (ready s.powered x)) Disabled
       (refuse_if (not (idleb x.phase)) InHand
-      (refuse_if (unfit || not (piece_fits incoming (slot_size x) p.address p.length)) UnfitBuffer Fits)))))
+      (refuse_if (unfit || not (piece_fits incoming (slot_size x) p.address p.length)) UnfitBuffer (Ok tt))))))
 
   -- a begin that is refused
-  pub begin_refused : (r : Refusal) → first_refusal (begin_conditions room s v e incoming p long unfit) ≡ Refused r
-      → (begin.Refused r ≡ (begin_call room s v e incoming p long unfit).answer)
+  pub begin_refused : (r : Refusal) → first_refusal (begin_conditions room s v e incoming p long unfit) ≡ Err r
+      → (Err r ≡ (begin_call room s v e incoming p long unfit).answer)
       × ((s ≡ (begin_call room s v e incoming p long unfit).state)
       × (([] ≡ (begin_call room s v e incoming p long unfit).ops)
       × ((no_wakes ≡ (begin_call room s v e incoming p long unfit).wakes)
-      × (begin_number (begin.Refused r) ≡ check_number (first_refusal (begin_conditions room s v e incoming p long unfit))))))
+      × (refusal_number r ≡ check_number (first_refusal (begin_conditions room s v e incoming p long unfit))))))
   unfolding begin_call or_else
   begin_refused r h = rw h (refl, (refl, (refl, (refl, refl))))
 
   -- one that isn't stores the slot in its place twice: as y, with the transfer in hand, for the windows; and as z, with
   -- its first chain handed over
-  pub begin_stored : (i : ℕ) (y z : Slot) → first_refusal (begin_conditions room s v e incoming p long unfit) ≡ Fits
+  pub begin_stored : (i : ℕ) (y z : Slot) → first_refusal (begin_conditions room s v e incoming p long unfit) ≡ Ok tt
       → i ≡ slot_place e incoming → y ≡ begun_slot (slot_at s i) p → z ≡ queued_slot (limit_of s) incoming y
-      → (begin.Begun ≡ (begin_call room s v e incoming p long unfit).answer)
+      → (Ok tt ≡ (begin_call room s v e incoming p long unfit).answer)
       × ((with_slot (with_slot s i y) i z ≡ (begin_call room s v e incoming p long unfit).state)
       × ((windows_ops (with_slot s i y) ++ queue_ops (limit_of s) e incoming y ≡ (begin_call room s v e incoming p long unfit).ops)
       × ((no_wakes ≡ (begin_call room s v e incoming p long unfit).wakes)

@@ -1,12 +1,12 @@
 -- The chains of a transfer (document 01, "device.rs, transfers"). How many packets a chain may
 -- have is a parameter, `limit`; M is `m`.
 -- Assumes nothing.
-use Rattle.std.specs.Prelude.{ℕ, ◌+◌, ◌-◌, ◌*◌, ◌%◌, ◌^◌, min, max, Bool, true, false, cond, not, ◌&&◌, ◌||◌, List, length, ◌==◌, nat_le, nat_lt}
+use Rattle.std.specs.Prelude.{ℕ, ◌+◌, ◌-◌, ◌*◌, ◌%◌, ◌^◌, min, max, Bool, true, false, cond, not, ◌&&◌, ◌||◌, List, ◌==◌, nat_le, nat_lt}
 use Rattle.ops.specs.Ops.{Op}
 use Rattle.base.specs.Ceil.{div_ceil}
 use Rattle.state.specs.declared.Transfer.{Transfer}
 use Rattle.state.specs.declared.Slot.{Slot}
-use Rattle.state_slots.specs.Slots.{slot_size, moved_slot}
+use Rattle.state_slots.specs.Slots.{slot_size, own_buffer, moved_slot}
 use Rattle.regs_endpoint.specs.Endpoint.{chain_in_ops, chain_out_ops}
 use Rattle.transfer_chain.specs.declared.Chain.{Chain}
 
@@ -67,7 +67,7 @@ abbrev pub out_goes_on : ℕ → Transfer → ℕ → Bool
 out_goes_on m t n = nat_le m n && nat_lt t.progress t.length
 
 abbrev pub slot_chain : ℕ → Slot → Chain
-slot_chain limit x = in_chain limit (slot_size x) x.config.buffer.address x.transfer
+slot_chain limit x = in_chain limit (slot_size x) (own_buffer x).address x.transfer
 
 -- a slot with its next chain handed over, and the operations that do it
 abbrev pub queued_slot : ℕ → Bool → Slot → Slot

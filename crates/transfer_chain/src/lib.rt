@@ -2,12 +2,15 @@
 // `data_irq` of device.rs).
 #![tactic(auto)]
 
-ghost use Rattle.std.specs.Prelude.{◌≡◌, ◌+◌, ◌≤◌, true, length, if◌then◌else◌};
+ghost use Rattle.std.specs.Prelude.{◌≡◌, ◌+◌, ◌≤◌, true, length};
 ghost use Rattle.ops.specs.Ops.{records};
 ghost use Rattle.ops.specs.Wrote.{Wrote};
-ghost use Rattle.transfer_chain.specs.Chains.{chain_packets, in_chain, out_chain, sent, arrived, in_goes_on, out_goes_on, queued_slot, queue_ops};
+ghost use Rattle.transfer_chain.specs.Chains.{chain_packets, left, place, in_chain, out_chain, sent, arrived, in_goes_on, out_goes_on, queued_slot, queue_ops};
 
-use state::{Slot, Transfer};
+use base::div_ceil;
+use regs_endpoint::{chain_in, chain_out};
+use state::{EndpointAddress, Slot, Transfer};
+use state_slots::{own_buffer, slot_size};
 
 // How many packets a chain may have.
 pub const CHAIN_PACKETS: u8 = 255;
@@ -22,43 +25,50 @@ pub struct Chain {
     pub progress: u32,
 }
 
+// What the controller tells of an OUT chain: how many packets came, and of how many bytes the last one was.
 #[derive(Clone, Copy)]
-pub struct Queued {
-    pub slot: Slot,
-    pub end: usize,
+pub struct Report {
+    pub packets: u32,
+    pub last: u32,
 }
 
-fn choose(first: bool, a: u32, b: u32) -> u32
-    ensures { result ≡ (if first then a else b) }
+// The bytes that remain.
+fn left(transfer: Transfer) -> u32
+    ensures { result ≡ left transfer }
 {
-    if first { a } else { b }
+    transfer.length.saturating_sub(transfer.progress)
+}
+
+// Where the transfer has come to.
+fn place(transfer: Transfer) -> u32
+    ensures { result ≡ place transfer }
+{
+    transfer.address.wrapping_add(transfer.progress)
 }
 
 // How many packets of m bytes the next chain has, with so many bytes left.
+#[tactic(auto, unfolding(crate::specs::Chains::chain_packets))]
 pub fn chain_packets(limit: u8, m: u16, bytes: u32) -> u32
-    ensures { result ≡ chain_packets limit m bytes }
+    ensures packets { result ≡ chain_packets limit m bytes }
+    ensures few { result ≤ limit }
 {
-    let all = base::div_ceil(bytes, m as u32);
-    let some = base::max(1, all);
-    base::min(limit as u32, some)
+    div_ceil(bytes, m as u32).max(1).min(limit as u32)
 }
 
 // The next chain of an IN transfer. An empty packet comes from the endpoint's own buffer.
+#[tactic(auto, using(crate::specs::ChainsLaws::product_fits), unfolding(crate::specs::Chains::chain_bytes))]
 pub fn in_chain(limit: u8, m: u16, own: u32, transfer: Transfer) -> Chain
     ensures { result ≡ in_chain limit m own transfer }
 {
-    let rest = base::saturating_sub(transfer.length, transfer.progress);
+    let rest = left(transfer);
     let packets = chain_packets(limit, m, rest);
-    let bytes = base::min(rest, packets * (m as u32));
-    let before = base::saturating_sub(packets, 1) * (m as u32);
-    let last = base::saturating_sub(bytes, before);
-    let next = std::num::wrapping_add_u32(transfer.address, transfer.progress);
-    let dma = choose(bytes == 0, own, next);
+    let bytes = rest.min(packets * (m as u32));
+    let before = packets.saturating_sub(1) * (m as u32);
     Chain {
-        dma: dma,
-        packets: packets,
-        bytes: bytes,
-        last: last,
+        dma: if bytes == 0 { own } else { place(transfer) },
+        packets,
+        bytes,
+        last: bytes.saturating_sub(before),
         progress: transfer.progress + bytes,
     }
 }
@@ -67,12 +77,9 @@ pub fn in_chain(limit: u8, m: u16, own: u32, transfer: Transfer) -> Chain
 pub fn out_chain(limit: u8, m: u16, transfer: Transfer) -> Chain
     ensures { result ≡ out_chain limit m transfer }
 {
-    let rest = base::saturating_sub(transfer.length, transfer.progress);
-    let packets = chain_packets(limit, m, rest);
-    let dma = std::num::wrapping_add_u32(transfer.address, transfer.progress);
     Chain {
-        dma: dma,
-        packets: packets,
+        dma: place(transfer),
+        packets: chain_packets(limit, m, left(transfer)),
         bytes: 0,
         last: 0,
         progress: transfer.progress,
@@ -84,30 +91,25 @@ fn after_chain(transfer: Transfer, chain: Chain) -> Transfer
     ensures { result ≡ sent transfer chain }
 {
     Transfer {
-        address: transfer.address,
-        length: transfer.length,
         progress: chain.progress,
-        zlp: transfer.zlp & !(chain.bytes == 0),
+        zlp: transfer.zlp & (chain.bytes != 0),
+        ..transfer
     }
 }
 
-// An OUT transfer after a report of its chain: so many packets, the last of them `last` bytes long. It never passes its
-// length.
-pub fn after_report(limit: u8, m: u16, transfer: Transfer, packets: u32, last: u32) -> Transfer
-    ensures { result ≡ arrived limit m transfer packets last }
+// An OUT transfer after a report of its chain. It never passes its length.
+#[tactic(auto, using(crate::specs::ChainsLaws::product_fits))]
+pub fn after_report(limit: u8, m: u16, transfer: Transfer, report: Report) -> Transfer
+    ensures { result ≡ arrived limit m transfer report.packets report.last }
 {
-    let rest = base::saturating_sub(transfer.length, transfer.progress);
+    let rest = left(transfer);
     let expected = chain_packets(limit, m, rest);
-    let some = base::max(1, packets);
-    let held = base::min(expected, some);
-    let before = base::saturating_sub(held, 1) * (m as u32);
-    let end = base::min(last, m as u32);
-    let received = base::min(before + end, rest);
+    let held = expected.min(report.packets.max(1));
+    let before = held.saturating_sub(1) * (m as u32);
+    let received = (before + report.last.min(m as u32)).min(rest);
     Transfer {
-        address: transfer.address,
-        length: transfer.length,
         progress: transfer.progress + received,
-        zlp: transfer.zlp,
+        ..transfer
     }
 }
 
@@ -126,39 +128,34 @@ pub fn out_goes_on(m: u16, transfer: Transfer, last: u32) -> bool
 }
 
 // Hands the next chain of a slot's transfer over.
-pub fn queue(ops: &mut [u32], at: usize, limit: u8, index: u8, incoming: bool, slot: Slot) -> Queued
+pub fn queue(
+    ops: &mut [u32],
+    at: usize,
+    limit: u8,
+    endpoint: EndpointAddress,
+    slot: &mut Slot,
+) -> usize
     requires { at + records 5 ≤ length ops.old }
-    ensures slot { result.slot ≡ queued_slot limit incoming slot }
-    ensures list { Wrote ops.old at (queue_ops limit index incoming slot) result.end ops.new }
+    ensures slot { slot.new ≡ queued_slot limit endpoint.incoming slot.old }
+    ensures list { Wrote ops.old at (queue_ops limit endpoint.index endpoint.incoming slot.old) result ops.new }
 {
-    let e = index as u32;
-    let m = slot.config.max_packet_size;
-    let transfer = slot.transfer;
-    if incoming {
+    let e = endpoint.index as u32;
+    if endpoint.incoming {
         return queue_in(ops, at, limit, e, slot);
     }
-    let chain = out_chain(limit, m, transfer);
-    let end = regs_endpoint::chain_out(ops, at, e, chain.dma, m as u32, chain.packets);
-    Queued {
-        slot: slot,
-        end: end,
-    }
+    let m = slot_size(*slot);
+    let chain = out_chain(limit, m, slot.transfer);
+    chain_out(ops, at, e, chain.dma, m as u32, chain.packets)
 }
 
-fn queue_in(ops: &mut [u32], at: usize, limit: u8, e: u32, slot: Slot) -> Queued
+fn queue_in(ops: &mut [u32], at: usize, limit: u8, e: u32, slot: &mut Slot) -> usize
     requires { at + records 5 ≤ length ops.old }
-    ensures slot { result.slot ≡ queued_slot limit true slot }
-    ensures list { Wrote ops.old at (queue_ops limit e true slot) result.end ops.new }
+    ensures slot { slot.new ≡ queued_slot limit true slot.old }
+    ensures list { Wrote ops.old at (queue_ops limit e true slot.old) result ops.new }
 {
-    let m = slot.config.max_packet_size;
-    let transfer = slot.transfer;
-    let phase = slot.phase;
-    let chain = in_chain(limit, m, slot.config.buffer.address, transfer);
-    let end = regs_endpoint::chain_in(ops, at, e, chain.dma, m as u32, chain.last, chain.packets);
-    let after = after_chain(transfer, chain);
-    let next = state_slots::completing::moved(slot, phase, after);
-    Queued {
-        slot: next,
-        end: end,
-    }
+    let m = slot_size(*slot);
+    let own = own_buffer(*slot);
+    let chain = in_chain(limit, m, own.address, slot.transfer);
+    slot.transfer = after_chain(slot.transfer, chain);
+    chain_in(ops, at, e, chain.dma, m as u32, chain.last, chain.packets)
 }

@@ -1,6 +1,6 @@
 -- Begin keeps the state sound and each slot's account right.
 -- Assumes nothing.
-use Rattle.std.specs.Prelude.{ℕ, ◌%◌, ◌<◌, Bool, true, false, ◌&&◌, ◌||◌, not, ◌≡◌, refl, ltb}
+use Rattle.std.specs.Prelude.{ℕ, ◌%◌, ◌<◌, Bool, true, false, ◌&&◌, ◌||◌, not, ◌≡◌, refl, ltb, Err}
 use Rattle.std.proofs.Common.{sym, ◌∙◌, arith, ltb-true, eqb-true}
 use Rattle.std.proofs.Math.Nat.{zero-mod}
 use Rattle.std.proofs.lemmas.Bool.{not-true, not-false}
@@ -18,13 +18,13 @@ use Rattle.state_slots.specs.Tally.{SameDifference}
 use Rattle.state_laws.specs.TallyLaws.{unmoved_difference, stored_difference}
 use Rattle.state_sound.specs.Clauses.{in_ram, aligned, multiple, is_in}
 use Rattle.state_sound.specs.Sound.{soundb, slotb}
-use Rattle.state_sound.specs.FactLaws.{in_ram_lem, Ready, OutFacts, BusyFacts, changed_sound, multiple_facts, in_slot, out_slot, one_slot_kept}
+use Rattle.state_sound.proofs.FactLaws.{in_ram_lem, Ready, OutFacts, BusyFacts, changed_sound, multiple_facts, in_slot, out_slot, one_slot_kept}
 use Rattle.state_call.specs.OutcomeLaws.{keeps, passed}
 use Rattle.transfer_chain.specs.Chains.{queued_slot, next_chain}
 use Rattle.transfer_laws.specs.TransferLaws.{sent_within, whole_of, chain_moves, Inside, chain_inside}
-use Rattle.transfer_begin.specs.declared.BeginAnswer.TheVariants as begin
 use Rattle.transfer_begin.specs.Begin.{begin_conditions, begun_at, begin_call}
-use Rattle.transfer_piece.specs.Piece.{Piece, piece_fits, begin_own, begun_slot}
+use Rattle.transfer_piece.specs.declared.Piece.{Piece}
+use Rattle.transfer_piece.specs.Piece.{piece_fits, begin_own, begun_slot}
 
 -- what a begin that is accepted has
 pub record AcceptedBegin (s : State) (v : Events) (e : ℕ) (incoming : Bool) (p : Piece) : Type 0 where
@@ -112,7 +112,7 @@ pub begin_keeps_sound : (room : ℕ) (s : State) (v : Events) (e : ℕ) (incomin
     → soundb (begin_call room s v e incoming p long unfit).state (begin_call room s v e incoming p long unfit).events ≡ true
 unfolding begin_call
 begin_keeps_sound room s v e incoming p long unfit h =
-    keeps (λ t u. soundb t u ≡ true) begin.Refused (begin_conditions room s v e incoming p long unfit) s v _ h
+    keeps (λ t u. soundb t u ≡ true) Err (begin_conditions room s v e incoming p long unfit) s v _ h
     (λ n. one_slot_kept s v (slot_number e incoming) (queued_slot (limit_of s) incoming (begun_at s e incoming p)) h
     (begun_sound s v e incoming p (accepted_begin room s v e incoming p long unfit n)))
 
@@ -126,7 +126,7 @@ pub begin_keeps_account : (room : ℕ) (s : State) (v : Events) (e : ℕ) (incom
     → SameDifference (slot_at s j) (slot_at (begin_call room s v e incoming p long unfit).state j)
 unfolding begin_call
 begin_keeps_account room s v e incoming p long unfit j =
-    keeps (λ t u. SameDifference (slot_at s j) (slot_at t j)) begin.Refused (begin_conditions room s v e incoming p long unfit) s v _ (unmoved_difference (slot_at s j))
+    keeps (λ t u. SameDifference (slot_at s j) (slot_at t j)) Err (begin_conditions room s v e incoming p long unfit) s v _ (unmoved_difference (slot_at s j))
     (λ n. stored_difference s (slot_number e incoming) (queued_slot (limit_of s) incoming (begun_at s e incoming p))
     (begun_difference (limit_of s) (slot_of s e incoming) p incoming (accepted_begin room s v e incoming p long unfit n).idle) j)
 
@@ -137,6 +137,6 @@ pub first_chain_within : (s : State) (v : Events) (e : ℕ) (incoming : Bool) (p
     (chain_moves incoming (slot_size (begun_at s e incoming p)) (next_chain (limit_of s) incoming (begun_at s e incoming p))) (begun_at s e incoming p).transfer
 first_chain_within s v e incoming p a some =
     let y = begun_at s e incoming p in
-    let f = piece_busy e incoming (slot_size y) 0 p.flag p a.fits (λ q. refl) in
+    let f = piece_busy e incoming (slot_size y) 0 p.zlp p a.fits (λ q. refl) in
     chain_inside (limit_of s) incoming y (omega arith) (omega (arith, f.ram.high))
     (λ q. let o = f.out (rw q (out_slot e)) in whole_of (slot_size y) y.transfer o.size o.whole o.come o.missing) some

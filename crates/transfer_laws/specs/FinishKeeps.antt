@@ -1,6 +1,6 @@
 -- Take and abandon keep the state sound and each slot's account right.
 -- Assumes nothing.
-use Rattle.std.specs.Prelude.{ℕ, Bool, true, false, cond, ◌≡◌}
+use Rattle.std.specs.Prelude.{ℕ, Bool, true, false, cond, ◌≡◌, Err}
 use Rattle.std.proofs.Common.{arith}
 use Rattle.state.specs.declared.Slot.{Slot}
 use Rattle.state.specs.declared.State.{State}
@@ -12,10 +12,8 @@ use Rattle.state_slots.specs.Slots.{idleb, busyb, slot_number, slot_of}
 use Rattle.state_slots.specs.Tally.{SameDifference}
 use Rattle.state_laws.specs.TallyLaws.{unmoved_difference, forgotten_keeps, keeps_difference, stored_difference}
 use Rattle.state_sound.specs.Sound.{soundb, slotb}
-use Rattle.state_sound.specs.FactLaws.{one_slot_kept, idled_sound}
+use Rattle.state_sound.proofs.FactLaws.{one_slot_kept, idled_sound}
 use Rattle.state_call.specs.OutcomeLaws.{keeps, passed_turn}
-use Rattle.transfer_take.specs.declared.TakeAnswer.TheVariants as take
-use Rattle.transfer_abandon.specs.declared.AbandonAnswer.TheVariants as abandon
 use Rattle.transfer_take.specs.Take.{take_own, take_conditions, taken_slot, take_leaves, take_call}
 use Rattle.transfer_abandon.specs.Abandon.{abandon_conditions, abandoned_slot, abandon_call}
 
@@ -32,7 +30,7 @@ pub take_keeps_sound : (s : State) (v : Events) (e : ℕ) (incoming unfit : Bool
     → soundb (take_call s v e incoming unfit most).state (take_call s v e incoming unfit most).events ≡ true
 unfolding take_call
 take_keeps_sound s v e incoming unfit most h =
-    keeps (λ t u. soundb t u ≡ true) take.Refused (take_conditions s v e incoming unfit) s v _ h
+    keeps (λ t u. soundb t u ≡ true) Err (take_conditions s v e incoming unfit) s v _ h
     (λ n. one_slot_kept s v (slot_number e incoming) (take_leaves (slot_of s e incoming)) h (left_sound s.powered (slot_number e incoming) (slot_of s e incoming)))
 
 -- So does an abandon.
@@ -40,7 +38,7 @@ pub abandon_keeps_sound : (room : ℕ) (s : State) (v : Events) (e : ℕ) (incom
     → soundb (abandon_call room s v e incoming).state (abandon_call room s v e incoming).events ≡ true
 unfolding abandon_call
 abandon_keeps_sound room s v e incoming h =
-    keeps (λ t u. soundb t u ≡ true) abandon.Refused (abandon_conditions room s v e) s v _ h
+    keeps (λ t u. soundb t u ≡ true) Err (abandon_conditions room s v e) s v _ h
     (λ n. let x = slot_of s e incoming in
     one_slot_kept s v (slot_number e incoming) (abandoned_slot x) h (λ k. idled_sound s.powered s.powered (slot_number e incoming) x x.enabled x.stalled _ k (λ d f. f.known)))
 
@@ -62,12 +60,12 @@ taken_difference x e = go (busyb x.phase)
 pub take_keeps_account : (s : State) (v : Events) (e : ℕ) (incoming unfit : Bool) (most j : ℕ) → SameDifference (slot_at s j) (slot_at (take_call s v e incoming unfit most).state j)
 unfolding take_call
 take_keeps_account s v e incoming unfit most j =
-    keeps (λ t u. SameDifference (slot_at s j) (slot_at t j)) take.Refused (take_conditions s v e incoming unfit) s v _ (unmoved_difference (slot_at s j))
+    keeps (λ t u. SameDifference (slot_at s j) (slot_at t j)) Err (take_conditions s v e incoming unfit) s v _ (unmoved_difference (slot_at s j))
     (λ n. stored_difference s (slot_number e incoming) (take_leaves (slot_of s e incoming)) (taken_difference (slot_of s e incoming) (take_in_hand s v e incoming unfit n)) j)
 
 -- An abandon alters no slot's difference.
 pub abandon_keeps_account : (room : ℕ) (s : State) (v : Events) (e : ℕ) (incoming : Bool) (j : ℕ) → SameDifference (slot_at s j) (slot_at (abandon_call room s v e incoming).state j)
 unfolding abandon_call
 abandon_keeps_account room s v e incoming j =
-    keeps (λ t u. SameDifference (slot_at s j) (slot_at t j)) abandon.Refused (abandon_conditions room s v e) s v _ (unmoved_difference (slot_at s j))
+    keeps (λ t u. SameDifference (slot_at s j) (slot_at t j)) Err (abandon_conditions room s v e) s v _ (unmoved_difference (slot_at s j))
     (λ n. let x = slot_of s e incoming in stored_difference s (slot_number e incoming) (abandoned_slot x) (keeps_difference x (abandoned_slot x) (forgotten_keeps x x.enabled x.stalled)) j)

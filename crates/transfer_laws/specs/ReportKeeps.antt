@@ -11,12 +11,12 @@ use Rattle.state.specs.declared.State.{State}
 use Rattle.state.specs.declared.Events.{Events}
 use Rattle.state.specs.Fresh.{slot_at}
 use Rattle.state.specs.Setters.{with_slot, limit_of}
-use Rattle.state_slots.specs.Slots.{idleb, busyb, slot_number, slot_of, slot_size, moved_slot}
+use Rattle.state_slots.specs.Slots.{idleb, busyb, slot_number, slot_of, slot_size, own_buffer, moved_slot}
 use Rattle.state_slots.specs.Tally.{SameDifference}
 use Rattle.state_laws.specs.TallyLaws.{unmoved_difference, stored_difference}
 use Rattle.state_sound.specs.Clauses.{is_in}
 use Rattle.state_sound.specs.Sound.{soundb, slotb}
-use Rattle.state_sound.specs.FactLaws.{OutFacts, BusyFacts, SlotFacts, slot_facts, Moves, changed_sound, in_slot, one_slot_kept}
+use Rattle.state_sound.proofs.FactLaws.{OutFacts, BusyFacts, SlotFacts, slot_facts, Moves, changed_sound, in_slot, one_slot_kept}
 use Rattle.state_laws.specs.SetterLaws.{wake_sound}
 use Rattle.transfer_chain.specs.Chains.{chain_packets, left, place, slot_chain, next_chain, queued_slot, sent, reported, arrived, in_goes_on, out_goes_on}
 use Rattle.transfer_laws.specs.TransferLaws.{packets_some, sent_within, last_has_rest, Whole, whole_of, whole_progress, report_fits, report_counted, still_whole, chain_moves, Inside, chain_inside}
@@ -88,7 +88,7 @@ report_keeps_sound s v e true packets last h =
     after_sound s v i true (in_goes_on t) t (sent t (slot_chain (limit_of s) x)) refl h (λ f. f.within)
     (λ q f. record {
       ready = f.ready;
-      within = sent_within (limit_of s) (slot_size x) x.config.buffer.address t f.within;
+      within = sent_within (limit_of s) (slot_size x) (own_buffer x).address t f.within;
       busy = λ b. record { ram = (f.busy b).ram; even = (f.busy b).even; out = λ o. absurd (true_not_false (sym (in_slot e) ∙ o)) };
     })
 report_keeps_sound s v e false packets last h =
@@ -159,5 +159,5 @@ pub in_chain_within : (limit : ℕ) (p : Bool) (i : ℕ) (x : Slot) → 2 ≤ i 
     → (((slot_chain limit x).packets - 1) * slot_size x + (slot_chain limit x).last ≡ (slot_chain limit x).bytes)
     × Inside (slot_chain limit x).dma (slot_chain limit x).bytes x.transfer
 in_chain_within limit p i x d o h b some =
-    let sum = last_has_rest limit (slot_size x) x.config.buffer.address x.transfer in
+    let sum = last_has_rest limit (slot_size x) (own_buffer x).address x.transfer in
     (sum, rw sum at (moves_within limit p i x true d o h b (rw sum some)))

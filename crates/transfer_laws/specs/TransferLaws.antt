@@ -9,7 +9,7 @@ use Rattle.base.specs.Ceil.{div_ceil}
 use Rattle.base.specs.CeilLaws.{ceil_none, ceil_by_zero, below_ceil, ceil_above}
 use Rattle.state.specs.declared.Transfer.{Transfer}
 use Rattle.state.specs.declared.Slot.{Slot}
-use Rattle.state_slots.specs.Slots.{slot_size}
+use Rattle.state_slots.specs.Slots.{slot_size, own_buffer}
 use Rattle.transfer_chain.specs.declared.Chain.{Chain}
 use Rattle.transfer_chain.specs.Chains.{chain_packets, chain_bytes, left, place, in_chain, sent, reported, arrived, slot_chain, next_chain}
 
@@ -181,7 +181,7 @@ chain_inside limit true x within b whole some =
     let t = x.transfer in
     let m = slot_size x in
     let n = chain_bytes limit m (left t) in
-    let sum = last_has_rest limit m x.config.buffer.address t in
+    let sum = last_has_rest limit m (own_buffer x).address t in
     let filled : eqb n 0 ≡ false = ne_eqb n 0 (λ z. omega (arith, sum, some, z)) in
     let here : (slot_chain limit x).dma ≡ t.address + t.progress = rw filled (place_is t within b) in
     record { begins = here; ends = omega (arith, here, sum, bytes_within limit m (left t)) }

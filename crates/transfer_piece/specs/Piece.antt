@@ -7,15 +7,11 @@ use Rattle.state.specs.declared.Refusal.TheVariants.{NoDataEndpoint, TooLong, Di
 use Rattle.state.specs.Refusals.{Condition, ◌if◌}
 use Rattle.state_slots.specs.Slots.{idleb, slot_size, data_endpoint, ready, changed_slot}
 use Rattle.state_sound.specs.Clauses.{in_ram, aligned, multiple}
+use Rattle.transfer_piece.specs.declared.Piece.{Piece}
 
--- what is to be moved: where, how many bytes, and whether an empty packet closes it
-pub record Piece : Type 0 where
-  pub address : ℕ
-  pub length : ℕ
-  pub flag : Bool
-
+-- a piece by its parts
 abbrev pub piece : ℕ → ℕ → Bool → Piece
-piece address length flag = record { address = address; length = length; flag = flag }
+piece address length zlp = record { address = address; length = length; zlp = zlp }
 
 -- refusal 8: in RAM, at a multiple of 4, and for OUT room for whole packets, at least one
 abbrev pub piece_fits : Bool → ℕ → ℕ → ℕ → Bool
@@ -35,10 +31,5 @@ begin_own powered e incoming address length long unfit x =
 -- the slot has the transfer in hand, with nothing of it moved
 abbrev pub begun_slot : Slot → Piece → Slot
 begun_slot x p =
-    changed_slot x Busy (record { address = p.address; length = p.length; progress = 0; zlp = p.flag })
-    (record {
-      begun = (x.tally.begun + 1) % 2 ^ 32;
-      finished = x.tally.finished;
-      cut = x.tally.cut;
-      bytes = x.tally.bytes;
-    })
+    changed_slot x Busy (record { address = p.address; length = p.length; progress = 0; zlp = p.zlp })
+    (record x.tally { begun = (x.tally.begun + 1) % 2 ^ 32 })

@@ -1,21 +1,19 @@
 -- Taking a transfer's result (reference: the polling of `run` in endpoint.rs).
 -- Assumes nothing.
-use Rattle.std.specs.Prelude.{ℕ, ◌+◌, ◌%◌, ◌^◌, Bool, cond, not, List, [], ◌∷◌, nat_lt}
+use Rattle.std.specs.Prelude.{ℕ, ◌+◌, ◌%◌, ◌^◌, Bool, cond, not, List, [], ◌∷◌, nat_lt, Err, Option, Some, None, Result, Ok}
 use Rattle.state.specs.declared.Phase.TheVariants.{Idle}
 use Rattle.state.specs.declared.Slot.{Slot}
 use Rattle.state.specs.declared.State.{State}
 use Rattle.state.specs.declared.Events.{Events}
+use Rattle.state.specs.declared.Refusal.{Refusal}
 use Rattle.state.specs.declared.Refusal.TheVariants.{NoDataEndpoint, Disabled, UnfitBuffer, TooLong}
-use Rattle.state.specs.declared.Check.{Check}
 use Rattle.state.specs.Setters.{with_slot}
 use Rattle.state.specs.Numbers.{refusal_number}
-use Rattle.state.specs.Refusals.{Condition, ◌if◌, first_refusal}
+use Rattle.state.specs.Refusals.{Check, Condition, ◌if◌, first_refusal}
 use Rattle.state_slots.specs.Slots.{idleb, busyb, slot_number, slot_of, data_endpoint, changed_slot}
 use Rattle.state_slots.specs.Waking.{no_wakes}
 use Rattle.state_call.specs.Turn.{in_turn}
 use Rattle.state_call.specs.Outcome.{Outcome, or_else, unless}
-use Rattle.transfer_take.specs.declared.TakeAnswer.{TakeAnswer}
-use Rattle.transfer_take.specs.declared.TakeAnswer.TheVariants as take
 use Rattle.transfer_take.specs.declared.Took.{Took}
 
 -- 7; 22 of a slot that is idle; 8 where what the caller has lent for the bytes is unfit
@@ -29,26 +27,21 @@ take_conditions s v e incoming unfit = in_turn s v (take_own e unfit (slot_of s 
 abbrev pub taken_slot : Slot → Slot
 taken_slot x =
     changed_slot x Idle x.transfer
-    (record {
-      begun = x.tally.begun;
-      finished = (x.tally.finished + 1) % 2 ^ 32;
-      cut = x.tally.cut;
-      bytes = (x.tally.bytes + x.transfer.progress) % 2 ^ 32;
-    })
+    (record x.tally { finished = (x.tally.finished + 1) % 2 ^ 32; bytes = (x.tally.bytes + x.transfer.progress) % 2 ^ 32 })
 
 -- busy before it is done; then the bytes moved, or 9 where they are more than the caller has room for
-abbrev pub take_answer : ℕ → Slot → TakeAnswer
+abbrev pub take_answer : ℕ → Slot → Result (Option ℕ) Refusal
 take_answer most x =
-    cond (busyb x.phase) take.Busy (cond (nat_lt most x.transfer.progress) (take.Refused TooLong) (take.Taken x.transfer.progress))
+    cond (busyb x.phase) (Ok None) (cond (nat_lt most x.transfer.progress) (Err TooLong) (Ok (Some x.transfer.progress)))
 
 -- one that is done is taken, with 9 too
 abbrev pub take_leaves : Slot → Slot
 take_leaves x = cond (busyb x.phase) x (taken_slot x)
 
 -- `unfit` and `most` are the caller's: whether what it lent is unfit, and how many bytes it has room for
-unfoldable pub take_call : State → Events → ℕ → Bool → Bool → ℕ → Outcome TakeAnswer
+unfoldable pub take_call : State → Events → ℕ → Bool → Bool → ℕ → Outcome (Result (Option ℕ) Refusal)
 take_call s v e incoming unfit most =
-    unless take.Refused (first_refusal (take_conditions s v e incoming unfit)) s v
+    unless Err (first_refusal (take_conditions s v e incoming unfit)) s v
     (record {
       answer = take_answer most (slot_of s e incoming);
       state = with_slot s (slot_number e incoming) (take_leaves (slot_of s e incoming));
@@ -59,10 +52,10 @@ take_call s v e incoming unfit most =
     })
 
 -- the numbers of an answer: a refusal's; or 0, whether it is done, and then its bytes
-abbrev pub take_numbers : TakeAnswer → List ℕ
-take_numbers (take.Refused r) = refusal_number r ∷ []
-take_numbers take.Busy = 0 ∷ 0 ∷ []
-take_numbers (take.Taken n) = 0 ∷ 1 ∷ n ∷ []
+abbrev pub take_numbers : Result (Option ℕ) Refusal → List ℕ
+take_numbers (Err r) = refusal_number r ∷ []
+take_numbers (Ok None) = 0 ∷ 0 ∷ []
+take_numbers (Ok (Some n)) = 0 ∷ 1 ∷ n ∷ []
 
 abbrev pub take_says : State → Events → ℕ → Bool → Bool → ℕ → List ℕ
 take_says s v e incoming unfit most =
@@ -72,4 +65,4 @@ take_says s v e incoming unfit most =
 
 -- what is said of the slot by itself, and what becomes of it
 abbrev pub took_at : Check → ℕ → Slot → Took
-took_at c most x = record { answer = or_else c take.Refused (take_answer most x); slot = or_else c (λ r. x) (take_leaves x) }
+took_at c most x = record { answer = or_else c Err (take_answer most x); slot = or_else c (λ r. x) (take_leaves x) }

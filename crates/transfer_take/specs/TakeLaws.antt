@@ -1,6 +1,6 @@
 -- Taking: the slot by itself is the call, and its numbers are the paper's.
 -- Assumes nothing.
-use Rattle.std.specs.Prelude.{◌≡◌, ℕ, Bool, true, false, cond, not, [], ◌∷◌, nat_lt}
+use Rattle.std.specs.Prelude.{◌≡◌, ℕ, Bool, true, false, cond, not, [], ◌∷◌, nat_lt, Ok, Err, Some, None}
 use Rattle.std.proofs.Math.Path.{refl, sym}
 use Rattle.std.proofs.Common.{ap, ◌∙◌}
 use Rattle.std.proofs.lemmas.Bool.{not-false}
@@ -8,13 +8,11 @@ use Rattle.state.specs.declared.Slot.{Slot}
 use Rattle.state.specs.declared.State.{State}
 use Rattle.state.specs.declared.Events.{Events}
 use Rattle.state.specs.declared.Refusal.TheVariants.{Unsound, OutOfTurn, Disabled, UnfitBuffer, TooLong}
-use Rattle.state.specs.declared.Check.{Check}
-use Rattle.state.specs.declared.Check.TheVariants.{Fits, Refused}
 use Rattle.state.specs.Fresh.{slot_at}
 use Rattle.state.specs.Setters.{with_slot}
 use Rattle.state.specs.Awaiting.{awaitingb}
 use Rattle.state.specs.Numbers.{refusal_number}
-use Rattle.state.specs.Refusals.{refuse_if, first_refusal, Bound}
+use Rattle.state.specs.Refusals.{Check, refuse_if, first_refusal, Bound}
 use Rattle.state.specs.RefusalsLaws.{none_due, not_due, bound}
 use Rattle.state_slots.specs.Slots.{idleb, busyb, slot_place, slot_of, data_endpoint}
 use Rattle.state_slots.specs.Waking.{no_wakes}
@@ -22,7 +20,6 @@ use Rattle.state_sound.specs.Sound.{soundb}
 use Rattle.state_call.specs.Turn.{turn_of}
 use Rattle.state_call.specs.Outcome.{or_else}
 use Rattle.state_call.specs.OutcomeLaws.{or_same, call_answer, call_state, call_wakes, passed_turn, reached, stored, told}
-use Rattle.transfer_take.specs.declared.TakeAnswer.TheVariants as take
 use Rattle.transfer_take.specs.declared.Took.{Took}
 use Rattle.transfer_take.specs.Take.{take_own, take_conditions, take_answer, take_leaves, take_call, take_numbers, take_says, took_at}
 
@@ -31,7 +28,7 @@ pub take_bound : (s : State) (v : Events) (e : ℕ) (incoming unfit : Bool) → 
 take_bound s v e incoming unfit = bound (take_conditions s v e incoming unfit)
 
 module _ (s : State) (v : Events) (e : ℕ) (incoming unfit : Bool) (most : ℕ) where
-  take_reaches : first_refusal (take_conditions s v e incoming unfit) ≡ Fits → data_endpoint e ≡ true
+  take_reaches : first_refusal (take_conditions s v e incoming unfit) ≡ Ok tt → data_endpoint e ≡ true
   take_reaches h =
       let p = passed_turn (soundb s v) s.awaited.next (take_own e unfit (slot_of s e incoming)) (none_due (take_conditions s v e incoming unfit) h) in
       not-false _ (not_due p.1.1).0
@@ -40,15 +37,15 @@ module _ (s : State) (v : Events) (e : ℕ) (incoming unfit : Bool) (most : ℕ)
   check_place : first_refusal (turn_of (soundb s v) s.awaited.next (take_own e unfit (slot_at s (slot_place e incoming)))) ≡ first_refusal (take_conditions s v e incoming unfit)
   check_place =
       ap (λ k. refuse_if (not (soundb s v)) Unsound (refuse_if (awaitingb s.awaited.next) OutOfTurn k))
-      (reached s e incoming (λ y. refuse_if (idleb y.phase) Disabled (refuse_if unfit UnfitBuffer Fits)))
+      (reached s e incoming (λ y. refuse_if (idleb y.phase) Disabled (refuse_if unfit UnfitBuffer (Ok tt))))
 
-  numbers : (c : Check) (y : Slot) → take_numbers (or_else c take.Refused (take_answer most y)) ≡
+  numbers : (c : Check) (y : Slot) → take_numbers (or_else c Err (take_answer most y)) ≡
       or_else c (λ r. refusal_number r ∷ []) (cond (busyb y.phase) (0 ∷ 0 ∷ []) (cond (nat_lt most y.transfer.progress) (9 ∷ []) (0 ∷ 1 ∷ y.transfer.progress ∷ [])))
   unfolding or_else
-  numbers (Refused r) y = refl
-  numbers Fits y = go (busyb y.phase) (nat_lt most y.transfer.progress)
+  numbers (Err r) y = refl
+  numbers (Ok tt) y = go (busyb y.phase) (nat_lt most y.transfer.progress)
     where
-      go : (b l : Bool) → take_numbers (cond b take.Busy (cond l (take.Refused TooLong) (take.Taken y.transfer.progress))) ≡ cond b (0 ∷ 0 ∷ []) (cond l (9 ∷ []) (0 ∷ 1 ∷ y.transfer.progress ∷ []))
+      go : (b l : Bool) → take_numbers (cond b (Ok None) (cond l (Err TooLong) (Ok (Some y.transfer.progress)))) ≡ cond b (0 ∷ 0 ∷ []) (cond l (9 ∷ []) (0 ∷ 1 ∷ y.transfer.progress ∷ []))
       go true l = refl
       go false true = refl
       go false false = refl
@@ -61,7 +58,7 @@ module _ (s : State) (v : Events) (e : ℕ) (incoming unfit : Bool) (most : ℕ)
   unfolding take_call
   took_take t q =
       let k = first_refusal (take_conditions s v e incoming unfit) in
-      let same = told s e incoming k take.Refused (take_answer most) take_reaches in
+      let same = told s e incoming k Err (take_answer most) take_reaches in
       let kept = stored s e incoming k take_leaves take_reaches in
       rw (q, check_place)
-      (same ∙ sym (call_answer take.Refused k s v _), (kept ∙ sym (call_state take.Refused k s v _), (sym (or_same k no_wakes) ∙ sym (call_wakes take.Refused k s v _), rw same (numbers k (slot_of s e incoming)))))
+      (same ∙ sym (call_answer Err k s v _), (kept ∙ sym (call_state Err k s v _), (sym (or_same k no_wakes) ∙ sym (call_wakes Err k s v _), rw same (numbers k (slot_of s e incoming)))))

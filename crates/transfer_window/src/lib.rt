@@ -1,5 +1,4 @@
-// The window of OUT endpoints (reference: `out_window` and `start` of device.rs). The calls go over the slots themselves:
-// they have the state.
+// The window of OUT endpoints (reference: `out_window` and `start` of device.rs).
 #![tactic(auto)]
 
 ghost use Rattle.std.specs.Prelude.{◌≡◌, ◌+◌, ◌≤◌, not, cond, [], length};
@@ -8,18 +7,30 @@ ghost use Rattle.ops.specs.Wrote.{Wrote};
 ghost use Rattle.base.specs.Bits.{bit};
 ghost use Rattle.state_slots.specs.Slots.{idleb, busyb};
 ghost use Rattle.regs_endpoint.specs.Endpoint.{window_ops};
-ghost use Rattle.transfer_window.specs.Window.{window_of};
+ghost use Rattle.transfer_window.specs.Window.{in_hand_count, window_of};
 
-use state::Slot;
+use regs_endpoint::set_out_window;
+use state::{Slot, State};
+use state_slots::{is_busy, is_idle};
 
 // One more in hand, where a slot isn't idle.
 pub fn counted(count: u32, slot: Slot) -> u32
     requires { count ≤ 14 }
     ensures { result ≡ count + bit (not (idleb slot.phase)) }
 {
-    let phase = slot.phase;
-    let idle = state_slots::is_idle(phase);
-    count + !idle as u32
+    count + !is_idle(slot.phase) as u32
+}
+
+// How many of the first `most` data slots, from slot 2 on, have a transfer in hand.
+pub fn in_hand_count(state: &State, most: usize) -> u32
+    requires { most ≤ 14 }
+    ensures { result ≡ in_hand_count state.now most }
+{
+    let mut count = 0;
+    for n in 0..most {
+        count = counted(count, state.endpoints[n + 2]);
+    }
+    count
 }
 
 // By how many data slots have a transfer in hand: 4 where endpoints share the bus, else 3.
@@ -34,10 +45,8 @@ pub fn window_at(ops: &mut [u32], at: usize, slot: Slot, window: u32, index: u8)
     requires { at + records 1 ≤ length ops.old }
     ensures { Wrote ops.old at (cond (busyb slot.phase) (window_ops index window) []) result ops.new }
 {
-    let phase = slot.phase;
-    let busy = state_slots::is_busy(phase);
-    if busy {
-        return regs_endpoint::set_out_window(ops, at, index as u32, window);
+    if is_busy(slot.phase) {
+        return set_out_window(ops, at, index as u32, window);
     }
     at
 }

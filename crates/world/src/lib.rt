@@ -2,7 +2,7 @@
 #![tactic(auto)]
 
 ghost use Rattle.std.specs.Prelude.{◌≡◌};
-ghost use Rattle.driver_new.specs.New.{new_result};
+ghost use Rattle.driver_new.specs.New.{no_driver};
 ghost use Rattle.state.specs.Fresh.{fresh_state};
 
 use state::{Driver, Events, State};
@@ -17,38 +17,31 @@ pub struct World {
 
 // Nothing was started, and the driver has no memory.
 pub fn fresh() -> World
-    ensures { result ≡ record { driver = (new_result 0 0).driver; state = fresh_state; events = record { events = 0 } } }
+    ensures { result ≡ record { driver = no_driver; state = fresh_state; events = record { events = 0 } } }
 {
-    let none = driver_new::new(0, 0);
-    let driver = none.driver;
-    let state = state::fresh::fresh();
     World {
-        driver: driver,
-        state: state,
+        driver: driver_new::no_driver(),
+        state: state::fresh::fresh(),
         events: Events { events: 0 },
     }
 }
 
-pub fn with_state(world: World, state: State) -> World
-    ensures { result ≡ record { driver = world.driver; state = state; events = world.events } }
-{
-    let mut after = world;
-    after.state = state;
-    after
-}
+impl World {
+    pub fn with_state(self, state: State) -> World
+        ensures { result ≡ record self { state = state } }
+    {
+        World { state, ..self }
+    }
 
-pub fn with_driver(world: World, driver: Driver) -> World
-    ensures { result ≡ record { driver = driver; state = world.state; events = world.events } }
-{
-    let mut after = world;
-    after.driver = driver;
-    after
-}
+    pub fn with_driver(self, driver: Driver) -> World
+        ensures { result ≡ record self { driver = driver } }
+    {
+        World { driver, ..self }
+    }
 
-pub fn with_events(world: World, events: Events) -> World
-    ensures { result ≡ record { driver = world.driver; state = world.state; events = events } }
-{
-    let mut after = world;
-    after.events = events;
-    after
+    pub fn with_events(self, events: Events) -> World
+        ensures { result ≡ record self { events = events } }
+    {
+        World { events, ..self }
+    }
 }

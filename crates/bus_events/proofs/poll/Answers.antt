@@ -1,5 +1,5 @@
 -- `poll`: 26 and 24, or the next event.
-use mathlib.Core.Path.{◌≡◌, sym, ◌∙◌}
+use Rattle.std.proofs.Common.{◌≡◌, sym, ◌∙◌}
 use Rattle.state.specs.Refusals.{first_refusal}
 use Rattle.bus_events.specs.Poll.{poll_conditions}
 use Rattle.bus_events.specs.EventLaws.{poll_refused, poll_made}
@@ -9,15 +9,14 @@ use Rattle.bus_events.proofs.poll.Goals.{After-turn_of-check}
 checked : (c : After-turn_of-check) → first_refusal (poll_conditions c.args.state c.args.events) ≡ c.turn_of-check.result
 checked c = sym (rw c.sound-good.ensures at c.turn_of-check.ensures)
 
-pub returns-in-Refused : goal.returns-in-Refused
-returns-in-Refused c =
+pub returns-in-Err : goal.returns-in-Err
+returns-in-Err c =
     let a = c.args in
-    let o = poll_refused a.state a.events _ (checked (goal.at.returns-in-Refused c).After-turn_of-check ∙ c.in-Refused.is) in
+    let o = poll_refused a.state a.events _ (checked (goal.at.returns-in-Err c).After-turn_of-check ∙ c.in-Err.is) in
     record { answer = o.0; events = o.1.0; wakes = c.no_wakes-wakes.ensures ∙ o.1.1.0; numbers = o.1.1.1 }
 
 pub returns : goal.returns
 returns c =
     let a = c.args in
     let o = poll_made a.state a.events (checked (goal.at.returns c).After-turn_of-check ∙ c.in_default.is) in
-    let said = rw c.next_pending-pending.ensures at c.poll_answer-answer.ensures in
-    record { answer = said ∙ o.0; events = rw (c.without-left.ensures, c.next_pending-pending.ensures) o.1.0; wakes = c.no_wakes-wakes.ensures ∙ o.1.1.0; numbers = rw said o.1.1.1 }
+    record { answer = rw c.next_pending-pending.ensures o.0; events = rw (c.without.ensures, c.next_pending-pending.ensures) o.1.0; wakes = c.no_wakes-wakes.ensures ∙ o.1.1.0; numbers = rw c.next_pending-pending.ensures o.1.1.1 }

@@ -1,23 +1,22 @@
 -- `raise`: 26, 24 and 11, or the byte.
-use mathlib.Core.Path.{◌≡◌, sym, ◌∙◌}
+use Rattle.std.proofs.Common.{◌≡◌, sym, ◌∙◌}
 use Rattle.state.specs.Refusals.{first_refusal}
 use Rattle.bus_events.specs.Raise.{raise_conditions}
 use Rattle.bus_events.specs.EventLaws.{raise_refused, raise_made}
 use Rattle.bus_events.proofs.raise.Goals as goal
-use Rattle.bus_events.proofs.raise.Goals.{After-turn_of-check}
+use Rattle.bus_events.proofs.raise.Goals.{After-raise_check-check}
 
-checked : (c : After-turn_of-check) → first_refusal (raise_conditions c.args.state c.args.events c.args.event) ≡ c.turn_of-check.result
-checked c =
-    sym (rw (c.refuse_if-further.ensures, c.is_event-known.ensures, c.sound-good.ensures) at c.turn_of-check.ensures)
+checked : (c : After-raise_check-check) → first_refusal (raise_conditions c.args.state c.args.events c.args.event) ≡ c.raise_check-check.result
+checked c = sym (rw c.sound-good.ensures at c.raise_check-check.ensures)
 
-pub returns-in-Refused : goal.returns-in-Refused
-returns-in-Refused c =
+pub returns-in-Err : goal.returns-in-Err
+returns-in-Err c =
     let a = c.args in
-    let o = raise_refused a.state a.events a.event _ (checked (goal.at.returns-in-Refused c).After-turn_of-check ∙ c.in-Refused.is) in
+    let o = raise_refused a.state a.events a.event _ (checked (goal.at.returns-in-Err c).After-raise_check-check ∙ c.in-Err.is) in
     record { answer = o.0; events = o.1.0; wakes = c.no_wakes-wakes.ensures ∙ o.1.1.0; number = o.1.1.1 }
 
 pub returns : goal.returns
 returns c =
     let a = c.args in
-    let o = raise_made a.state a.events a.event (checked (goal.at.returns c).After-turn_of-check ∙ c.in_default.is) in
-    record { answer = o.0; events = rw c.raise_byte-after.ensures o.1.0; wakes = c.no_wakes-wakes.ensures ∙ o.1.1.0; number = o.1.1.1 }
+    let o = raise_made a.state a.events a.event (checked (goal.at.returns c).After-raise_check-check ∙ c.in_default.is) in
+    record { answer = o.0; events = rw c.raise_byte.ensures o.1.0; wakes = c.no_wakes-wakes.ensures ∙ o.1.1.0; number = o.1.1.1 }

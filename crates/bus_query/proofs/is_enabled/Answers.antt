@@ -1,20 +1,13 @@
--- `is_enabled`: the slot's flag.
-use mathlib.Core.Bool.{◌&&◌}
-use mathlib.Core.Path.{ap, ◌∙◌}
-use Rattle.state.specs.Refusals.{first_refusal}
-use Rattle.state_call.specs.Outcome.{or_else}
-use Rattle.bus_query.specs.declared.QueryAnswer.TheVariants as query
-use Rattle.bus_query.specs.Query.{query_conditions, enabledb, enabled_call}
-use Rattle.bus_query.specs.QueryLaws.{asked_place, query_told}
+-- `is_enabled`: the slot's flag, of a device that is on.
+use Rattle.std.specs.Prelude.{◌&&◌}
+use Rattle.bus_query.specs.Query.{enabled_call}
+use Rattle.bus_query.proofs.Asked.{asked_told}
 use Rattle.bus_query.proofs.is_enabled.Goals as goal
 
 pub returns : goal.returns
 unfolding enabled_call
 returns c =
     let a = c.args in
-    let said = rw (c.sound-good.ensures, c.slot_place-i.ensures) at c.answer-said.ensures in
-    let t =
-    query_told a.state a.events (enabledb a.state a.index a.incoming) c.answer-said.result c.no_wakes-wakes.result
-    (said ∙ ap (λ b. or_else (first_refusal (query_conditions a.state a.events)) query.Refused (query.Says b)) (asked_place (λ x. a.state.powered && x.enabled) a.state a.index a.incoming))
-    c.no_wakes-wakes.ensures in
+    let said = rw (c.sound-good.ensures, c.slot_place.ensures) at c.answer.ensures in
+    let t = asked_told (λ x. a.state.powered && x.enabled) a.state a.events a.endpoint.index a.endpoint.incoming _ _ said.answer said.wakes in
     record { answer = t.0; wakes = t.1.0; numbers = t.1.1 }

@@ -1,23 +1,20 @@
--- Refused, busy, too long, or copied.
+-- Refused, busy, or closed.
+use Rattle.std.proofs.Common.{◌≡◌, refl, ap, sym, ◌∙◌, length, arith}
+use Rattle.state.specs.Refusals.{first_refusal}
+use Rattle.transfer_take.specs.Take.{take_numbers}
 use Rattle.control_stage.specs.Stage.{ep0_unfit}
 use Rattle.control_take_out.specs.TakeOut.{take_out_conditions}
-use Rattle.state.specs.Refusals.{first_refusal}
-use mathlib.Core.Path.{◌≡◌}
-use native.Mathlib.Omega.{arith}
-use mathlib.Core.Path.{refl, ap, sym, ◌∙◌}
-use Rattle.transfer_take.specs.Take.{take_numbers}
-use lib.ListN.{length}
-use Rattle.control_take_out.specs.TakeOutLaws.{take_out_lent, take_out_refused, take_out_busy, take_out_long, take_out_done, within}
+use Rattle.control_take_out.specs.TakeOutLaws.{take_out_lent, take_out_refused, take_out_busy, take_out_closed}
 use Rattle.control_take_out.proofs.take_out.Goals as goal
 use Rattle.control_take_out.proofs.take_out.Goals.{After-stage_check-check}
 
 checked : (c : After-stage_check-check) → first_refusal (take_out_conditions c.args.state c.args.events c.args.generation (ep0_unfit c.args.state c.args.address (length c.args.ep0.now))) ≡ c.stage_check-check.result
 checked c = sym (rw (c.is_unfit-unfit.ensures, c.is_served-served.ensures, c.sound-good.ensures) at c.stage_check-check.ensures)
 
-pub returns-in-Refused : goal.returns-in-Refused
-returns-in-Refused c =
+pub returns-in-Err : goal.returns-in-Err
+returns-in-Err c =
     let a = c.args in
-    let o = take_out_refused a.state a.events a.generation (length a.out.now) a.ep0.now a.address _ (checked (goal.at.returns-in-Refused c).After-stage_check-check ∙ c.in-Refused.is) in
+    let o = take_out_refused a.state a.events a.generation (length a.out.now) a.ep0.now a.address _ (checked (goal.at.returns-in-Err c).After-stage_check-check ∙ c.in-Err.is) in
     let x = c.answered.ensures in
     record { answer = x.answer ∙ o.0; state = x.state ∙ o.1.0; wakes = x.wakes ∙ o.1.1.0; numbers = ap take_numbers x.answer ∙ o.1.1.1.1; lent = rw (sym o.1.1.1.0) refl }
 
@@ -28,23 +25,16 @@ returns-then-not-done c =
     let x = c.answered-then-not-done.ensures in
     record { answer = x.answer ∙ o.0; state = x.state ∙ o.1.0; wakes = x.wakes ∙ o.1.1.0; numbers = ap take_numbers x.answer ∙ o.1.1.1.1; lent = rw (sym o.1.1.1.0) refl }
 
-pub returns-then-long : goal.returns-then-long
-returns-then-long c =
+pub copy_out-answer-requires : goal.copy_out-answer-requires
+copy_out-answer-requires c =
     let a = c.args in
-    let o = take_out_long a.state a.events a.generation (length a.out.now) a.ep0.now a.address (checked (goal.at.returns-then-long c).After-stage_check-check ∙ c.in_default.is) (sym c.is_done-done.ensures ∙ c.if-not-done.false) (sym c.is_too_long-long.ensures ∙ c.if-long.true) in
-    let x = c.answered-then-long.ensures in
-    record { answer = x.answer ∙ o.0; state = rw c.idle-y.ensures at x.state ∙ o.1.0; wakes = x.wakes ∙ o.1.1.0; numbers = ap take_numbers x.answer ∙ o.1.1.1.1; lent = rw (sym o.1.1.1.0) refl }
-
-pub copy_out-requires : goal.copy_out-requires
-copy_out-requires c =
-    let a = c.args in
-    let lent = take_out_lent a.state a.events a.generation (length a.out.now) a.ep0.now a.address (checked (goal.at.copy_out-requires c).After-stage_check-check ∙ c.in_default.is) in
-    let w = within _ (length a.out.now) (sym c.is_too_long-long.ensures ∙ c.if-long.false) in
-    record { room = w.0; lent = omega (arith, w.1, lent) }
+    let lent = take_out_lent a.state a.events a.generation (length a.out.now) a.ep0.now a.address (checked (goal.at.copy_out-answer-requires c).After-stage_check-check ∙ c.in_default.is) in
+    omega (arith, lent)
 
 pub returns : goal.returns
 returns c =
     let a = c.args in
-    let o = take_out_done a.state a.events a.generation (length a.out.now) a.ep0.now a.address (checked (goal.at.returns c).After-stage_check-check ∙ c.in_default.is) (sym c.is_done-done.ensures ∙ c.if-not-done.false) (sym c.is_too_long-long.ensures ∙ c.if-long.false) in
+    let o = take_out_closed a.state a.events a.generation (length a.out.now) a.ep0.now a.address (checked (goal.at.returns c).After-stage_check-check ∙ c.in_default.is) (sym c.is_done-done.ensures ∙ c.if-not-done.false) in
     let x = c.answered-2.ensures in
-    record { answer = x.answer ∙ o.0; state = rw c.idle-y.ensures at x.state ∙ o.1.0; wakes = x.wakes ∙ o.1.1.0; numbers = ap take_numbers x.answer ∙ o.1.1.1.1; lent = rw (sym o.1.1.1.0) c.copy_out.ensures }
+    let y = c.copy_out-answer.ensures in
+    record { answer = x.answer ∙ (y.answer ∙ o.0); state = rw c.idle.ensures at x.state ∙ o.1.0; wakes = x.wakes ∙ o.1.1.0; numbers = ap take_numbers (x.answer ∙ y.answer) ∙ o.1.1.1.1; lent = rw (sym o.1.1.1.0) y.lent }

@@ -5,4 +5,4 @@ use Rattle.interrupt_transfer.proofs.report_pieces.Goals as goal
 pub returns : goal.returns
 returns c =
     let e = c.report_slot-followed.ensures in
-    record { effect = rw (e.slot, e.wake); awaited = c.nothing_awaited-nothing.ensures; list = c.chain_ack-a.ensures ▹ e.list }
+    (rw (e.slot, e.wake), (c.nothing_awaited.ensures, c.chain_ack-a.ensures ▹ e.list))

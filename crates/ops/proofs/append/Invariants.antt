@@ -1,12 +1,8 @@
--- After k turns the records of the first k rows stand in the list.
-use Prim.Native.Nat.{◌≤◌, ◌-◌}
-use lib.ListN.{length, take}
+-- Behind each turn the records of the rows so far stand in the list.
+use Rattle.std.proofs.Common.{take}
 use Rattle.ops.specs.Stores.{Stored}
 use Rattle.ops.specs.Wrote.{row_records}
 use Rattle.ops.proofs.append.Given as goal
 
-abbrev pub invariant-loop-k : goal.invariant-loop-k
-invariant-loop-k l = (l.k ≤ length l.rows) × Stored l.initial.ops l.at (row_records (take l.k l.rows)) l.a l.ops
-
-abbrev pub decreases-loop-k : goal.decreases-loop-k
-decreases-loop-k l = length l.rows - l.k
+abbrev pub invariant-loop-row : goal.invariant-loop-row
+invariant-loop-row l = Stored l.initial.ops l.at (row_records (take l.row-index l.rows)) l.end l.ops

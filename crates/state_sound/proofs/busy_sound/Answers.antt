@@ -13,4 +13,4 @@ returns-then-i-eq1 c =
 
 pub returns : goal.returns
 unfolding busy_clausesb
-returns c = rw (c.in_ram-inside.ensures, c.is_aligned-even.ensures, c.out_sound-out.ensures, ne_eqb _ _ c.if-i-eq1.false)
+returns c = rw (c.in_ram-inside.ensures, c.is_aligned-even.ensures, c.out_sound-out.ensures, c.slot_size.ensures, ne_eqb _ _ c.if-i-eq1.false)

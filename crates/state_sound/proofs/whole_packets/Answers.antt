@@ -1,7 +1,7 @@
 -- `whole_packets`: one packet, one burst, or by division.
 use native.Mathlib.Omega.{arith}
 use borrow.Author.Tests.{lt-ltb, le-ltb}
-use Rattle.state_sound.specs.SoundLaws.{whole_packet, whole_burst, burst_fits_lem}
+use Rattle.state_sound.proofs.SoundLaws.{whole_packet, whole_burst, burst_fits_lem}
 use Rattle.state_sound.proofs.whole_packets.Goals as goal
 
 pub returns-then-size-n : goal.returns-then-size-n

@@ -1,10 +1,10 @@
--- The name of a register is stored: each row of the table has the name of its number, by one computed test.
+-- The name of a register: the table has the name of each number, by one computed test.
 use Rattle.tool_names.specs.Names.{register_name, register_names}
-use Rattle.tool_rows.specs.RowsLaws.{rows_named}
+use Rattle.tool_rows.specs.RowsLaws.{table_named}
 use Rattle.tool_names.proofs.register_name.Goals as goal
 
 pub returns : goal.returns
 unfolding register_name
 returns c =
-    let s = c.store.ensures in
-    record { stored = rows_named register_names _ _ s.stored tt; upper_bound = s.upper_bound }
+    let n = table_named _ _ register_names _ c.name.ensures tt in
+    record { name = n.0; has_room = n.1 }

@@ -1,10 +1,10 @@
--- The name of an enumerated value is stored: each row of the table has the name of its number, by one computed test.
+-- The name of an enumerated value: the table has the name of each number, by one computed test.
 use Rattle.tool_names.specs.Names.{value_name, value_names}
-use Rattle.tool_rows.specs.RowsLaws.{rows_named}
+use Rattle.tool_rows.specs.RowsLaws.{table_named}
 use Rattle.tool_names.proofs.value_name.Goals as goal
 
 pub returns : goal.returns
 unfolding value_name
 returns c =
-    let s = c.store.ensures in
-    record { stored = rows_named value_names _ _ s.stored tt; upper_bound = s.upper_bound }
+    let n = table_named _ _ value_names _ c.name.ensures tt in
+    record { name = n.0; has_room = n.1 }

@@ -1,13 +1,9 @@
 -- The bytes passed are filled.
-use Rattle.std.proofs.Common.{arith}
-use Rattle.tool_patterns.specs.PatternsLaws.{none_filled, begun_length, one_more, all_filled}
+use Rattle.tool_patterns.specs.PatternsLaws.{none_filled, one_more, all_filled}
 use Rattle.tool_patterns.proofs.fill.Goals as goal
 
 pub loop-i-init : goal.loop-i-init
 loop-i-init c = none_filled _ _
-
-pub loop-i-smaller : goal.loop-i-smaller
-loop-i-smaller c = omega (arith, begun_length c.loop-i.invariant)
 
 pub loop-i-preserved : goal.loop-i-preserved
 loop-i-preserved c = one_more c.loop-i.invariant c.pattern_byte.ensures c.loop-i-test.true

@@ -1,10 +1,6 @@
 -- The bytes passed are filled.
-use Rattle.std.proofs.Common.{◌-◌, length}
 use Rattle.tool_patterns.specs.PatternsLaws.{Begun}
 use Rattle.tool_patterns.proofs.fill.Given as goal
 
 abbrev pub invariant-loop-i : goal.invariant-loop-i
 invariant-loop-i l = Begun l.pattern l.initial.bytes l.i l.bytes
-
-abbrev pub decreases-loop-i : goal.decreases-loop-i
-decreases-loop-i l = length l.initial.bytes - l.i

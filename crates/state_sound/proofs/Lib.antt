@@ -1,0 +1,3 @@
+pub mod SoundLaws
+pub mod FactLaws
+pub mod FaultLaws

@@ -1,9 +1,0 @@
--- A line lies in the buffer, and the loop ends.
-use Rattle.std.proofs.Common.{◌≤◌, ◌≡◌, length}
-use Rattle.tool_input.proofs.next_line.Given as goal
-
-abbrev pub invariant-loop-turns : goal.invariant-loop-turns
-invariant-loop-turns g l = ((l.from ≤ l.end) × (l.end ≤ length l.buffer)) × (length l.buffer ≡ length l.initial.buffer)
-
-abbrev pub decreases-loop-turns : goal.decreases-loop-turns
-decreases-loop-turns g l = l.turns
