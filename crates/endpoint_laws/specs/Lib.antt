@@ -4,3 +4,4 @@ pub mod Receives
 pub mod ReceiveLaws
 pub mod MoveLaws
 pub mod MoveKeeps
+pub mod IgnoredLaws

@@ -43,7 +43,7 @@ fn first_awaited(powered: bool) -> Awaited
 }
 
 // Begins the handling of an interrupt.
-pub fn interrupt(ops: &mut [u32], state: State, events: Events) -> InterruptResult
+pub fn interrupt(ops: &mut [u32], mut state: State, events: Events) -> InterruptResult
     ensures answer { result.answer ≡ (interrupt_call (length ops.old) state events).answer }
     ensures state { result.state ≡ (interrupt_call (length ops.old) state events).state }
     ensures events { result.events ≡ (interrupt_call (length ops.old) state events).events }
@@ -51,17 +51,16 @@ pub fn interrupt(ops: &mut [u32], state: State, events: Events) -> InterruptResu
     ensures wakes { result.wakes ≡ (interrupt_call (length ops.old) state events).wakes }
     ensures numbers { interrupt_numbers result.answer ≡ interrupt_says (length ops.old) state events }
 {
-    let mut s = state;
-    let good = sound(s, events);
-    let check = admit(ops.len(), good, s.awaited);
+    let good = sound(state, events);
+    let check = admit(ops.len(), good, state.awaited);
     if let Err(refusal) = check {
-        return refused(refusal, s, events);
+        return refused(refusal, state, events);
     }
-    let ending = settle(first_awaited(s.powered), events, s.wake);
-    s.wake = ending.wake;
-    s.awaited = ending.awaited;
+    let ending = settle(first_awaited(state.powered), events, state.wake);
+    state.wake = ending.wake;
+    state.awaited = ending.awaited;
     InterruptResult {
-        state: s,
+        state,
         events,
         answer: Ok(ending.awaited.next),
         end: 0,

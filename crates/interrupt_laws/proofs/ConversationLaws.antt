@@ -1,7 +1,7 @@
 -- An interrupt ends: an accepted reading leads to a later one or to the end, so that no conversation has over nine.
 -- Assumes nothing.
 use Rattle.std.specs.Prelude.{ℕ, ◌≤◌, ◌<◌, Bool, true, false, cond, List, [], ◌∷◌, ◌≡◌, refl, eqb, leb, length, Ok, Err, Option, Some, None}
-use Rattle.std.proofs.Common.{arith}
+use Rattle.std.proofs.Common.{arith, sym}
 use Rattle.ops.specs.Numbers as number
 use Rattle.ops.specs.Ops.{Op}
 use Rattle.regs_link.specs.Link.{link_ack_ops}
@@ -179,6 +179,9 @@ module _ (room : ℕ) (s : State) (v : Events) where
   begun_call : first_refusal (interrupt_conditions room s v) ≡ Ok tt → interrupt_call room s v ≡ settled s v (first_awaited s.powered) []
   unfolding interrupt_call
   begun_call e = (accepted Err (interrupt_conditions room s v) s v (settled s v (first_awaited s.powered) []) e).1
+
+  pub interrupt_settled : first_refusal (interrupt_conditions room s v) ≡ Ok tt → settled s v (first_awaited s.powered) [] ≡ interrupt_call room s v
+  interrupt_settled e = sym (begun_call e)
 
   pub begun_with_power : first_refusal (interrupt_conditions room s v) ≡ Ok tt → s.powered ≡ true
       → ((interrupt_call room s v).answer ≡ Ok (Some awaiting.LinkFlags)) × ((interrupt_call room s v).state.awaited.next ≡ Some awaiting.LinkFlags)

@@ -1,7 +1,7 @@
 // Orders and transfers, a call each: the state that it leaves.
 #![tactic(auto)]
 
-ghost use Rattle.std.specs.Prelude.{◌≡◌};
+ghost use Rattle.std.specs.Prelude.{◌≡◌, true, false};
 
 use state::{EndpointAddress, Events, State};
 use transfer_chain::Report;

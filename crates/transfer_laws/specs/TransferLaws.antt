@@ -1,7 +1,7 @@
 -- What the numbers of a chain come to: an IN chain sends what it says, and OUT moves whole packets until a short one.
 -- Assumes nothing.
 use Prim.Native.Nat.{ℕ, zero, suc, ◌+◌, ◌*◌, ◌-◌, ◌/◌, ◌%◌, ◌^◌, ◌≤◌, ◌<◌, min, max}
-use Rattle.std.specs.Prelude.{Bool, true, false, ◌≡◌, refl, eqb}
+use Rattle.std.specs.Prelude.{ℕ, ◌-◌, ◌*◌, ◌<◌, ◌≤◌, Bool, true, false, ◌≡◌, refl, eqb}
 use Rattle.std.proofs.Common.{add-zero, div-add-mod', lt_of_not-le, arith, ne_eqb}
 use Rattle.std.proofs.Math.Nat.{mul-le-mul_right, mul-mod_left}
 use Rattle.std.proofs.Math.Decide.{dec_le}
@@ -11,6 +11,7 @@ use Rattle.state.specs.declared.Transfer.{Transfer}
 use Rattle.state.specs.declared.Slot.{Slot}
 use Rattle.state_slots.specs.Slots.{slot_size, own_buffer}
 use Rattle.transfer_chain.specs.declared.Chain.{Chain}
+use Rattle.transfer_chain.specs.ChainsLaws.{product_fits}
 use Rattle.transfer_chain.specs.Chains.{chain_packets, chain_bytes, left, place, in_chain, sent, reported, arrived, slot_chain, next_chain}
 
 -- a number is at most another, or above it
@@ -30,6 +31,10 @@ packets_some limit m n h = omega arith
 pub packets_most : (limit m n : ℕ) → chain_packets limit m n ≤ limit
 unfolding chain_packets
 packets_most limit m n = omega arith
+
+-- so that what they come to in bytes fits 32 bits
+pub chain_product_fits : (p limit m n k : ℕ) → p ≡ chain_packets limit m n → limit < 256 → m < 65536 → k ≤ p → k * m < 4294967296 - 65536
+chain_product_fits p limit m n k e b d h = product_fits k m (omega (arith, e, b, h, packets_most limit m n)) d
 
 -- no chain sends more than is left
 pub bytes_within : (limit m n : ℕ) → chain_bytes limit m n ≤ n
