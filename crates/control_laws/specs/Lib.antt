@@ -1,2 +1,3 @@
 pub mod KeptLaws
 pub mod ControlKeeps
+pub mod CopiedLaws

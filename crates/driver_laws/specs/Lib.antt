@@ -1,3 +1,4 @@
 pub mod LowestLaws
 pub mod LayoutLaws
 pub mod StartKeeps
+pub mod ToldLaws

@@ -4,3 +4,4 @@ pub mod LongestLaws
 pub mod RoomLaws
 pub mod InterruptKeeps
 pub mod Standard
+pub mod BegunLaws
