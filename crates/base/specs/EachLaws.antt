@@ -1,7 +1,8 @@
 -- Laws of every, count and of lists that are changed entry by entry.
 -- Assumes nothing.
+use Rattle.std.specs.List.{list_all, enumerate_from}
 use Rattle.std.specs.Prelude.{ℕ, zero, suc, ◌+◌, ◌<◌, ◌≤◌, Bool, true, false, ◌&&◌, ◌||◌, not, List, [], ◌∷◌, ◌++◌, map, ◌≡◌, refl, eqb, ltb, length, get_or, set}
-use Rattle.std.proofs.Math.Bool.{and_assoc}
+use Rattle.std.proofs.Math.Bool.{and_assoc, and-true}
 use Rattle.std.proofs.Common.{ap, sym, ◌∙◌, add-one, add-zero, zero-add, arith, eqb-true, ltb-true, ltb-false}
 use Rattle.std.proofs.lemmas.Bool.{eqb-false}
 use Rattle.base.specs.Bits.{bit}
@@ -174,3 +175,26 @@ pub set_own : {A : Type 0} (l : List A) (i : ℕ) (d : A) → set l i (get_or l 
 set_own [] i d = refl
 set_own (x ∷ l) zero d = refl
 set_own (x ∷ l) (suc i) d = ap (λ t. x ∷ t) (set_own l i d)
+
+every_same : (p q : ℕ → Bool) (n : ℕ) → ((i : ℕ) → p i ≡ q i) → every p n ≡ every q n
+unfolding every
+every_same p q zero h = refl
+every_same p q (suc n) h = rw (every_same p q n h, h n)
+
+every_first : (p : ℕ → Bool) (n : ℕ) → every p (suc n) ≡ (p 0 && every (λ i. p (suc i)) n)
+unfolding every
+every_first p zero = sym (and-true (p 0))
+every_first p (suc n) = rw (every_first p n) (and_assoc (p 0) (every (λ i. p (suc i)) n) (p (suc n)))
+
+-- the entries of a list with their numbers, from k on
+every_entry : {A : Type 0} (p : ℕ → A → Bool) (d : A) (l : List A) (k : ℕ) → list_all (λ (e : ℕ × A). p e.0 e.1) (enumerate_from k l) ≡ every (λ i. p (k + i) (get_or l i d)) (length l)
+unfolding every
+every_entry p d [] k = refl
+every_entry {A} p d (x ∷ l) k =
+    ap (λ (b : Bool). p k x && b) (every_entry p d l (k + 1) ∙ every_same _ _ (length l) (λ i. ap (λ (j : ℕ). p j (get_or l i d)) (omega arith)))
+    ∙ ap (λ (j : ℕ). p j x && every (λ i. p (k + suc i) (get_or l i d)) (length l)) (sym (add-zero k))
+    ∙ sym (every_first (λ i. p (k + i) (get_or (x ∷ l) i d)) (length l))
+
+-- all entries of a list are so, each with its number
+pub every_listed : {A : Type 0} (p : ℕ → A → Bool) (d : A) (l : List A) (n : ℕ) → length l ≡ n → list_all (λ (e : ℕ × A). p e.0 e.1) (enumerate_from 0 l) ≡ every (λ i. p i (get_or l i d)) n
+every_listed p d l n h = every_entry p d l 0 ∙ every_same _ _ (length l) (λ i. ap (λ (j : ℕ). p j (get_or l i d)) (zero-add i)) ∙ ap (every (λ i. p i (get_or l i d))) h

@@ -1,4 +1,4 @@
-// Arithmetic that the parts of the driver share. Nothing is asked of the arguments.
+// Arithmetic on numbers of 32 bits. Nothing is asked of the arguments.
 #![tactic(auto)]
 
 ghost use Rattle.std.specs.Prelude.{◌≡◌, ◌-◌, min as least, max as greatest};

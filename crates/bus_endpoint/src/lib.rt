@@ -2,15 +2,17 @@
 #![tactic(auto)]
 
 ghost use Rattle.std.specs.Prelude.{[], ◌≡◌, ◌≤◌, Ok, length};
-ghost use Rattle.ops.specs.Ops.{records, flat, list_numbers};
+ghost use Rattle.ops.specs.Ops.{flat, list_numbers};
+ghost use Rattle.ops.specs.Lists.{Room, Adds};
 ghost use Rattle.ops.specs.Wrote.{Wrote};
 ghost use Rattle.state.specs.Refusals.{first_refusal};
 ghost use Rattle.state_call.specs.Turn.{admitted_of};
 ghost use Rattle.bus_endpoint.specs.Endpoint.{isochronous_of, wanted, fits, ordered_slot, ordered_ops, order_wakes, made_slot, made_ops, obeyed_ops, obeyed_at};
 ghost use Rattle.bus_endpoint.specs.declared.Order.TheVariants.{Stall, Enable};
 
-use state::{Awaited, EndpointAddress, EndpointConfig, EndpointType, Refusal, Slot, Wakes};
-use state_call::admit;
+use ops::OpList;
+use state::{EndpointAddress, EndpointConfig, EndpointType, Refusal, Slot, Wakes};
+use state_call::{Entry, ListEntry};
 use state_slots::waking::{no_wakes, wake_slot};
 use state_slots::{forget, is_busy, is_data_endpoint, reset, slot_number};
 
@@ -46,39 +48,41 @@ fn wakes_of(endpoint: EndpointAddress) -> Wakes
 }
 
 // Ends the chain of a busy transfer, then has the endpoint answer STALL or no longer.
-fn stall_ops(ops: &mut [u32], index: u32, incoming: bool, slot: Slot, stalled: bool) -> usize
-    requires { records 7 ≤ length ops.old }
-    ensures { Wrote ops.old 0 (ordered_ops (Stall stalled) index incoming slot) result ops.new }
+fn stall_ops(list: &mut OpList<'_>, endpoint: EndpointAddress, slot: Slot, stalled: bool)
+    requires { Room 7 list.old }
+    ensures { Adds list.old (ordered_ops (Stall stalled) endpoint.index endpoint.incoming slot) list.new }
 {
-    let a = regs_endpoint::abort_busy(ops, 0, index, incoming, is_busy(slot.phase));
+    let index = endpoint.index as u32;
+    regs_endpoint::abort_busy(list, index, endpoint.incoming, is_busy(slot.phase));
     if stalled {
-        return regs_endpoint::halt(ops, a, index, incoming);
+        regs_endpoint::halt(list, index, endpoint.incoming);
+    } else {
+        regs_endpoint::clear(list, index, endpoint.incoming);
     }
-    regs_endpoint::clear(ops, a, index, incoming)
 }
 
 // Off, then set up anew and on, or cleared.
-fn switch_ops(ops: &mut [u32], index: u32, incoming: bool, slot: Slot, enabled: bool) -> usize
-    requires { records 10 ≤ length ops.old }
-    ensures { Wrote ops.old 0 (ordered_ops (Enable enabled) index incoming slot) result ops.new }
-{
-    let iso = is_isochronous(slot.config);
-    let a = regs_endpoint::set_enabled(ops, 0, index, incoming, false);
-    if enabled {
-        let b = regs_endpoint::configure(ops, a, index, incoming, iso);
-        return regs_endpoint::set_enabled(ops, b, index, incoming, true);
-    }
-    regs_endpoint::clear(ops, a, index, incoming)
-}
-
-fn ordered_ops(ops: &mut [u32], endpoint: EndpointAddress, slot: Slot, order: Order) -> usize
-    requires { list_numbers ≤ length ops.old }
-    ensures { Wrote ops.old 0 (ordered_ops order endpoint.index endpoint.incoming slot) result ops.new }
+fn switch_ops(list: &mut OpList<'_>, endpoint: EndpointAddress, slot: Slot, enabled: bool)
+    requires { Room 10 list.old }
+    ensures { Adds list.old (ordered_ops (Enable enabled) endpoint.index endpoint.incoming slot) list.new }
 {
     let index = endpoint.index as u32;
+    regs_endpoint::set_enabled(list, index, endpoint.incoming, false);
+    if enabled {
+        regs_endpoint::configure(list, index, endpoint.incoming, is_isochronous(slot.config));
+        regs_endpoint::set_enabled(list, index, endpoint.incoming, true);
+    } else {
+        regs_endpoint::clear(list, index, endpoint.incoming);
+    }
+}
+
+fn ordered_ops(list: &mut OpList<'_>, endpoint: EndpointAddress, slot: Slot, order: Order)
+    requires { Room 128 list.old }
+    ensures { Adds list.old (ordered_ops order endpoint.index endpoint.incoming slot) list.new }
+{
     match order {
-        Order::Stall(stalled) => stall_ops(ops, index, endpoint.incoming, slot, stalled),
-        Order::Enable(enabled) => switch_ops(ops, index, endpoint.incoming, slot, enabled),
+        Order::Stall(stalled) => stall_ops(list, endpoint, slot, stalled),
+        Order::Enable(enabled) => switch_ops(list, endpoint, slot, enabled),
     }
 }
 
@@ -95,10 +99,7 @@ fn ordered_slot(order: Order, slot: Slot) -> Slot
 fn is_wanted(order: Order, enabled: bool) -> bool
     ensures { result ≡ wanted order enabled }
 {
-    match order {
-        Order::Stall(_) => enabled,
-        Order::Enable(_) => true,
-    }
+    enabled || matches!(order, Order::Enable(_))
 }
 
 // Whether an order reaches the endpoint.
@@ -124,10 +125,12 @@ fn make(
 {
     let wakes = wakes_of(endpoint);
     if fits(powered, endpoint.index, order, slot) {
+        let mut list = OpList::new(ops);
+        ordered_ops(&mut list, endpoint, slot, order);
         return Obeyed {
             answer: Ok(()),
             slot: ordered_slot(order, slot),
-            end: ordered_ops(ops, endpoint, slot, order),
+            end: list.end,
             wakes,
         };
     }
@@ -142,17 +145,17 @@ fn make(
 // What an order, refused or made, says of a slot, leaves of it and writes.
 pub fn obey(
     ops: &mut [u32],
-    good: bool,
-    awaited: Awaited,
+    entry: Entry,
     powered: bool,
     endpoint: EndpointAddress,
     order: Order,
     slot: Slot,
 ) -> Obeyed
-    ensures result { result ≡ obeyed_at (first_refusal (admitted_of (length ops.old) good awaited.next [])) powered endpoint.index endpoint.incoming order slot }
-    ensures list { Wrote ops.old 0 (obeyed_ops (first_refusal (admitted_of (length ops.old) good awaited.next [])) powered endpoint.index endpoint.incoming order slot) result.end ops.new }
+    ensures result { result ≡ obeyed_at (first_refusal (admitted_of (length ops.old) entry.good entry.awaited.next [])) powered endpoint.index endpoint.incoming order slot }
+    ensures list { Wrote ops.old 0 (obeyed_ops (first_refusal (admitted_of (length ops.old) entry.good entry.awaited.next [])) powered endpoint.index endpoint.incoming order slot) result.end ops.new }
 {
-    match admit(ops.len(), good, awaited) {
+    let room = ops.len();
+    match (ListEntry { room, entry }).admit() {
         Ok(()) => make(ops, powered, endpoint, order, slot),
         Err(refusal) => Obeyed {
             answer: Err(refusal),

@@ -9,11 +9,10 @@ ghost use Rattle.state_call.specs.Turn.{turn_of};
 ghost use Rattle.bus_events.specs.Raise.{raise_own, raise_conditions, raise_call};
 ghost use Rattle.bus_events.specs.Poll.{poll_call, poll_numbers, poll_says};
 
-use state::{Awaited, Events, Refusal, State, Wakes};
-use state_call::turn_of;
+use state::{Events, Refusal, State, Wakes};
+use state_call::Entry;
 use state_events::{Event, next_pending, raise_byte, without};
 use state_slots::waking::no_wakes;
-use state_sound::sound;
 
 // What a call on the events says, and leaves of them.
 #[derive(Clone, Copy)]
@@ -23,10 +22,10 @@ pub struct Pended<A> {
     pub wakes: Wakes,
 }
 
-fn raise_check(good: bool, awaited: Awaited, event: u8) -> Result<(), Refusal>
-    ensures { result ≡ first_refusal (turn_of good awaited.next (raise_own event)) }
+fn raise_check(entry: Entry, event: u8) -> Result<(), Refusal>
+    ensures { result ≡ first_refusal (turn_of entry.good entry.awaited.next (raise_own event)) }
 {
-    turn_of(good, awaited)?;
+    entry.admit()?;
     Event::try_from(event)?;
     Ok(())
 }
@@ -37,8 +36,7 @@ pub fn raise(state: State, events: Events, event: u8) -> Pended<()>
     ensures wakes { result.wakes ≡ (raise_call state events event).wakes }
     ensures number { check_number result.answer ≡ check_number (first_refusal (raise_conditions state events event)) }
 {
-    let good = sound(state, events);
-    let check = raise_check(good, state.awaited, event);
+    let check = raise_check(Entry::new(&state, events), event);
     let wakes = no_wakes();
     if let Err(refusal) = check {
         return Pended {
@@ -61,8 +59,7 @@ pub fn poll(state: State, events: Events) -> Pended<Option<Event>>
     ensures wakes { result.wakes ≡ (poll_call state events).wakes }
     ensures numbers { poll_numbers result.answer ≡ poll_says state events }
 {
-    let good = sound(state, events);
-    let check = turn_of(good, state.awaited);
+    let check = Entry::new(&state, events).admit();
     let wakes = no_wakes();
     if let Err(refusal) = check {
         return Pended {

@@ -1,3 +1,4 @@
 pub mod OrderKeeps
 pub mod PowerKeeps
 pub mod EventKeeps
+pub mod AnswerLaws

@@ -10,9 +10,8 @@ ghost use Rattle.bus_endpoint.specs.declared.Order.TheVariants.{Stall, Enable};
 
 use bus_endpoint::{Order, obey};
 use state::{EndpointAddress, Events, State};
-use state_call::Listed;
+use state_call::{Entry, Listed};
 use state_slots::slot_place;
-use state_sound::sound;
 
 // Inlined, since a call with the state costs two copies of it.
 #[inline(always)]
@@ -29,12 +28,11 @@ fn order(
     ensures wakes { result.wakes ≡ (order_call (length ops.old) state events endpoint.index endpoint.incoming order).wakes }
     ensures number { check_number result.answer ≡ check_number (first_refusal (order_conditions (length ops.old) state events)) }
 {
-    let good = sound(state, events);
+    let entry = Entry::new(&state, events);
     let i = slot_place(endpoint);
     let obeyed = obey(
         ops,
-        good,
-        state.awaited,
+        entry,
         state.powered,
         endpoint,
         order,

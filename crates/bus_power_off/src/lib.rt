@@ -1,28 +1,27 @@
 // Power off (reference: `Bus` of device.rs).
 #![tactic(auto)]
 
-ghost use Rattle.std.specs.Prelude.{◌≡◌, ◌≤◌, length};
-ghost use Rattle.ops.specs.Ops.{list_numbers};
+ghost use Rattle.std.specs.Prelude.{◌≡◌, length};
+ghost use Rattle.ops.specs.Lists.{Room, Adds};
 ghost use Rattle.ops.specs.Wrote.{Wrote};
 ghost use Rattle.state.specs.Numbers.{check_number};
 ghost use Rattle.state.specs.Refusals.{first_refusal};
 ghost use Rattle.bus_power_off.specs.PowerOff.{shut_ops, off_conditions, power_off_call};
 
+use ops::OpList;
 use state::{Events, State};
-use state_call::{Listed, admit};
+use state_call::{ListEntry, Listed};
 use state_slots::reset;
 use state_slots::waking::{no_wakes, wake_all};
-use state_sound::sound;
 
 // The registers of a device that is on are shut down.
-fn shut(ops: &mut [u32], powered: bool) -> usize
-    requires { list_numbers ≤ length ops.old }
-    ensures { Wrote ops.old 0 (shut_ops powered) result ops.new }
+fn shut(list: &mut OpList<'_>, powered: bool)
+    requires { Room 128 list.old }
+    ensures { Adds list.old (shut_ops powered) list.new }
 {
     if powered {
-        return regs_device::shutdown(ops, 0);
+        regs_device::shutdown(list);
     }
-    0
 }
 
 // Leaves the bus; what is in hand is cut.
@@ -33,8 +32,8 @@ pub fn power_off(ops: &mut [u32], mut state: State, events: Events) -> Listed<()
     ensures wakes { result.wakes ≡ (power_off_call (length ops.old) state events).wakes }
     ensures number { check_number result.answer ≡ check_number (first_refusal (off_conditions (length ops.old) state events)) }
 {
-    let good = sound(state, events);
-    if let Err(refusal) = admit(ops.len(), good, state.awaited) {
+    let check = ListEntry::new(ops.len(), &state, events).admit();
+    if let Err(refusal) = check {
         return Listed {
             state,
             answer: Err(refusal),
@@ -42,7 +41,8 @@ pub fn power_off(ops: &mut [u32], mut state: State, events: Events) -> Listed<()
             wakes: no_wakes(),
         };
     }
-    let end = shut(ops, state.powered);
+    let mut list = OpList::new(ops);
+    shut(&mut list, state.powered);
     for (i, slot) in state.endpoints.iter_mut().enumerate() {
         *slot = reset(*slot, 2 <= i, false);
     }
@@ -51,7 +51,7 @@ pub fn power_off(ops: &mut [u32], mut state: State, events: Events) -> Listed<()
     Listed {
         state,
         answer: Ok(()),
-        end,
+        end: list.end,
         wakes: wake_all(),
     }
 }

@@ -9,22 +9,17 @@ ghost use Rattle.state_call.specs.Turn.{admitted_of};
 ghost use Rattle.bus_power_on.specs.PowerOn.{on_own, on_conditions, power_on_call};
 
 use bus_reset::bus_reset;
+use ops::OpList;
 use state::refusals::refuse_if;
-use state::{Awaited, Events, Refusal, State};
-use state_call::{Listed, admit};
+use state::{Events, Refusal, State};
+use state_call::{Entry, ListEntry, Listed};
 use state_slots::waking::{no_wakes, wake_all};
 use state_sound::sound;
 
-fn on_check(
-    room: usize,
-    good: bool,
-    awaited: Awaited,
-    ep0_address: u32,
-    revision: u32,
-) -> Result<(), Refusal>
-    ensures { result ≡ first_refusal (admitted_of room good awaited.next (on_own revision ep0_address)) }
+fn on_check(lent: ListEntry, ep0_address: u32, revision: u32) -> Result<(), Refusal>
+    ensures { result ≡ first_refusal (admitted_of lent.room lent.entry.good lent.entry.awaited.next (on_own revision ep0_address)) }
 {
-    admit(room, good, awaited)?;
+    lent.admit()?;
     refuse_if(15 < revision, Refusal::OutOfRange)?;
     refuse_if(ep0_address == 0, Refusal::Disabled)
 }
@@ -37,8 +32,13 @@ pub fn power_on(ops: &mut [u32], state: State, events: Events, revision: u32) ->
     ensures wakes { result.wakes ≡ (power_on_call (length ops.old) state events revision).wakes }
     ensures number { check_number result.answer ≡ check_number (first_refusal (on_conditions (length ops.old) state events revision)) }
 {
-    let good = sound(state, events);
-    let check = on_check(ops.len(), good, state.awaited, state.ep0_address, revision);
+    // of values: lent to `ListEntry::new`, the state is copied once more
+    let entry = Entry {
+        good: sound(state, events),
+        awaited: state.awaited,
+    };
+    let room = ops.len();
+    let check = on_check(ListEntry { room, entry }, state.ep0_address, revision);
     if let Err(refusal) = check {
         return Listed {
             state,
@@ -55,17 +55,18 @@ pub fn power_on(ops: &mut [u32], state: State, events: Events, revision: u32) ->
             wakes: wake_all(),
         };
     }
-    let a = regs_init::init(ops, 0, revision);
-    let reset = bus_reset(ops, a, state);
+    let mut list = OpList::new(ops);
+    regs_init::init(&mut list, revision);
+    let reset = bus_reset(&mut list, state);
     Listed {
         state: State {
             revision: revision as u8,
             powered: true,
             reset_seen: false,
-            ..reset.state
+            ..reset
         },
         answer: Ok(()),
-        end: reset.end,
+        end: list.end,
         wakes: wake_all(),
     }
 }

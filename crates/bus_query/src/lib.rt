@@ -8,11 +8,10 @@ ghost use Rattle.state_call.specs.Turn.{turn_of};
 ghost use Rattle.state_call.specs.Outcome.{or_else};
 ghost use Rattle.bus_query.specs.Query.{stalledb, enabledb, stalled_call, enabled_call, query_numbers, query_says};
 
-use state::{Awaited, EndpointAddress, Events, Refusal, State, Wakes};
-use state_call::turn_of;
+use state::{EndpointAddress, Events, Refusal, State, Wakes};
+use state_call::Entry;
 use state_slots::slot_place;
 use state_slots::waking::no_wakes;
-use state_sound::sound;
 
 #[derive(Clone, Copy)]
 pub struct QueryResult {
@@ -21,12 +20,12 @@ pub struct QueryResult {
 }
 
 #[tactic(auto, unfolding(state_call::specs::Outcome::or_else))]
-fn answer(good: bool, awaited: Awaited, says: bool) -> QueryResult
-    ensures answer { result.answer ≡ or_else (first_refusal (turn_of good awaited.next [])) Err (Ok says) }
+fn answer(entry: Entry, says: bool) -> QueryResult
+    ensures answer { result.answer ≡ or_else (first_refusal (turn_of entry.good entry.awaited.next [])) Err (Ok says) }
     ensures wakes { result.wakes ≡ no_wakes }
 {
     QueryResult {
-        answer: turn_of(good, awaited).and(Ok(says)),
+        answer: entry.admit().and(Ok(says)),
         wakes: no_wakes(),
     }
 }
@@ -37,8 +36,8 @@ pub fn is_stalled(state: State, events: Events, endpoint: EndpointAddress) -> Qu
     ensures numbers { query_numbers result.answer ≡ query_says state events (stalledb state endpoint.index endpoint.incoming) }
 {
     let slot = state.endpoints[slot_place(endpoint)];
-    let good = sound(state, events);
-    answer(good, state.awaited, (endpoint.index < 8) & slot.stalled)
+    let entry = Entry::new(&state, events);
+    answer(entry, (endpoint.index < 8) & slot.stalled)
 }
 
 pub fn is_enabled(state: State, events: Events, endpoint: EndpointAddress) -> QueryResult
@@ -47,10 +46,6 @@ pub fn is_enabled(state: State, events: Events, endpoint: EndpointAddress) -> Qu
     ensures numbers { query_numbers result.answer ≡ query_says state events (enabledb state endpoint.index endpoint.incoming) }
 {
     let slot = state.endpoints[slot_place(endpoint)];
-    let good = sound(state, events);
-    answer(
-        good,
-        state.awaited,
-        (endpoint.index < 8) & (state.powered & slot.enabled),
-    )
+    let entry = Entry::new(&state, events);
+    answer(entry, (endpoint.index < 8) & (state.powered & slot.enabled))
 }

@@ -1,22 +1,15 @@
 // Resets of the control transfer and of the bus (reference: `control_reset` and `bus_reset` of device.rs).
 #![tactic(auto)]
 
-ghost use Rattle.std.specs.Prelude.{◌≡◌, ◌+◌, ◌≤◌, length};
-ghost use Rattle.ops.specs.Ops.{records};
-ghost use Rattle.ops.specs.Wrote.{Wrote};
+ghost use Rattle.std.specs.Prelude.{◌≡◌};
+ghost use Rattle.ops.specs.Lists.{Room, Adds};
 ghost use Rattle.regs_device.specs.Device.{bus_reset_ops};
 ghost use Rattle.bus_reset.specs.Reset.{control_reset, bus_reset_state};
 
+use ops::OpList;
 use state::State;
 use state_slots::reset;
 use state_slots::waking::add_slot;
-
-// What a bus reset leaves.
-#[derive(Clone, Copy)]
-pub struct Reset {
-    pub state: State,
-    pub end: usize,
-}
 
 // The control transfer starts over: its stages are cut, and who waits for one is to be woken.
 pub fn control_reset(mut state: State) -> State
@@ -49,14 +42,11 @@ pub fn reset_state(mut state: State) -> State
 }
 
 // Protocol layer, endpoints, address and control transfer start over.
-pub fn bus_reset(ops: &mut [u32], at: usize, state: State) -> Reset
-    requires { at + records 83 ≤ length ops.old }
-    ensures state { result.state ≡ bus_reset_state state }
-    ensures list { Wrote ops.old at (bus_reset_ops state.ep0_address) result.end ops.new }
+pub fn bus_reset(list: &mut OpList<'_>, state: State) -> State
+    requires { Room 83 list.old }
+    ensures state { result ≡ bus_reset_state state }
+    ensures list { Adds list.old (bus_reset_ops state.ep0_address) list.new }
 {
-    let end = regs_device::bus_reset(ops, at, state.ep0_address);
-    Reset {
-        state: reset_state(state),
-        end,
-    }
+    regs_device::bus_reset(list, state.ep0_address);
+    reset_state(state)
 }

@@ -3,6 +3,7 @@
 
 ghost use Rattle.std.specs.Prelude.{◌≡◌, [], ◌∷◌, length, ◌≤◌, true, cond, leb, Ok};
 ghost use Rattle.state.specs.Refusals.{first_refusal};
+ghost use Rattle.ops.specs.Lists.{Room, Adds};
 ghost use Rattle.ops.specs.Wrote.{Wrote};
 ghost use Rattle.ops.specs.Ops.{list_numbers};
 ghost use Rattle.state_slots.specs.Waking.{no_wakes};
@@ -11,19 +12,20 @@ ghost use Rattle.control_stage.specs.Stage.{in_stage, stage_numbers, stage_says}
 ghost use Rattle.control_accept.specs.Accept.{accept_ops, accept_conditions, accept_call, address_conditions, accept_address_call};
 
 use control_stage::{Stage, admit_stage, answered, is_served, staged};
+use ops::OpList;
 use regs_control::{ep0_rx_ready, ep0_tx_ready};
 use state::{Events, State};
-use state_call::Listed;
+use state_call::{Entry, ListEntry, Listed};
 use state_slots::waking::no_wakes;
 use state_sound::sound;
 
 // The registers of a status stage: an empty packet, and the next one taken.
-fn acknowledge(ops: &mut [u32]) -> usize
-    requires { list_numbers ≤ length ops.old }
-    ensures { Wrote ops.old 0 accept_ops result ops.new }
+fn acknowledge(list: &mut OpList<'_>)
+    requires { Room 128 list.old }
+    ensures { Adds list.old accept_ops list.new }
 {
-    let at = ep0_tx_ready(ops, 0, 0, 0);
-    ep0_rx_ready(ops, at)
+    ep0_tx_ready(list, 0, 0);
+    ep0_rx_ready(list);
 }
 
 // An accepted status stage, and the address that takes hold at its end.
@@ -34,14 +36,15 @@ fn status_stage(ops: &mut [u32], mut state: State, address: Option<u8>) -> Liste
     ensures list { Wrote ops.old 0 accept_ops result.end ops.new }
     ensures wakes { result.wakes ≡ no_wakes }
 {
-    let end = acknowledge(ops);
+    let mut list = OpList::new(ops);
+    acknowledge(&mut list);
     state.endpoints[1] = staged(state.endpoints[1]);
     state.in_last = true;
     state.address = address;
     Listed {
         state,
         answer: Ok(Stage::Accepted),
-        end,
+        end: list.end,
         wakes: no_wakes(),
     }
 }
@@ -54,9 +57,16 @@ pub fn accept(ops: &mut [u32], state: State, events: Events, generation: u32) ->
     ensures wakes { result.wakes ≡ (accept_call (length ops.old) state events generation).wakes }
     ensures numbers { stage_numbers result.answer ≡ stage_says (first_refusal (accept_conditions (length ops.old) state events generation)) (0 ∷ []) }
 {
-    let good = sound(state, events);
-    let served = is_served(state.powered, state.control_generation, generation);
-    let check = admit_stage(ops.len(), good, state.awaited, !served);
+    // of values: lent to `ListEntry::new`, the state is copied once more
+    let entry = Entry {
+        good: sound(state, events),
+        awaited: state.awaited,
+    };
+    let room = ops.len();
+    let check = admit_stage(
+        ListEntry { room, entry },
+        !is_served(state.powered, state.control_generation, generation),
+    );
     if let Err(refusal) = check {
         return answered(state, Err(refusal));
     }
@@ -77,10 +87,17 @@ pub fn accept_address(
     ensures wakes { result.wakes ≡ (accept_address_call (length ops.old) state events generation address).wakes }
     ensures numbers { stage_numbers result.answer ≡ stage_says (first_refusal (address_conditions (length ops.old) state events generation address)) (cond (leb address 127) (0 ∷ []) []) }
 {
-    let good = sound(state, events);
     let known = address <= 127;
-    let served = is_served(state.powered, state.control_generation, generation);
-    let check = admit_stage(ops.len(), good, state.awaited, known & !served);
+    // of values: lent to `ListEntry::new`, the state is copied once more
+    let entry = Entry {
+        good: sound(state, events),
+        awaited: state.awaited,
+    };
+    let room = ops.len();
+    let check = admit_stage(
+        ListEntry { room, entry },
+        known & !is_served(state.powered, state.control_generation, generation),
+    );
     if let Err(refusal) = check {
         return answered(state, Err(refusal));
     }

@@ -12,12 +12,12 @@ ghost use Rattle.control_in.specs.DataIn.{next_sequence, data_in_conditions, dat
 
 use base::copies::copy;
 use control_stage::{Stage, answered, is_served, is_unfit, staged};
+use ops::OpList;
 use regs_control::ep0_tx_ready;
 use state::refusals::refuse_if;
-use state::{Awaited, EP0_SIZE, Events, Refusal, State};
-use state_call::{Listed, admit};
+use state::{EP0_SIZE, Events, Refusal, State};
+use state_call::{ListEntry, Listed};
 use state_slots::waking::no_wakes;
-use state_sound::sound;
 
 // The sequence number of a data packet: 0 of the first, then one more than the last report gave, modulo 32.
 fn next_sequence(first: bool, previous: u8) -> u32
@@ -30,17 +30,10 @@ fn next_sequence(first: bool, previous: u8) -> u32
 }
 
 // What a packet is refused by: its length, its generation, and EP0's buffer.
-fn packet_check(
-    room: usize,
-    good: bool,
-    awaited: Awaited,
-    size: usize,
-    served: bool,
-    unfit: bool,
-) -> Result<(), Refusal>
-    ensures { result ≡ first_refusal (admitted_of room good awaited.next (TooLong if ltb 512 size ∷ Disabled if not served ∷ UnfitBuffer if unfit ∷ [])) }
+fn packet_check(lent: ListEntry, size: usize, served: bool, unfit: bool) -> Result<(), Refusal>
+    ensures { result ≡ first_refusal (admitted_of lent.room lent.entry.good lent.entry.awaited.next (TooLong if ltb 512 size ∷ Disabled if not served ∷ UnfitBuffer if unfit ∷ [])) }
 {
-    admit(room, good, awaited)?;
+    lent.admit()?;
     refuse_if(size > EP0_SIZE as usize, Refusal::TooLong)?;
     refuse_if(!served, Refusal::Disabled)?;
     refuse_if(unfit, Refusal::UnfitBuffer)
@@ -65,22 +58,23 @@ pub fn data_in(
     ensures numbers { stage_numbers result.answer ≡ stage_says (first_refusal (data_in_conditions (length ops.old) state events generation (length bytes.now) (ep0_unfit state address (length ep0.old)))) (0 ∷ []) }
     ensures lent { ep0.new ≡ front (data_in_call (length ops.old) state events generation bytes.now address (length ep0.old) first last).copied ep0.old }
 {
-    let good = sound(state, events);
+    let lent = ListEntry::new(ops.len(), &state, events);
     let served = is_served(state.powered, state.control_generation, generation);
-    let unfit = is_unfit(state.ep0_address, address, ep0.len());
-    let check = packet_check(ops.len(), good, state.awaited, bytes.len(), served, unfit);
+    let unfit = is_unfit(&state, address, ep0.len());
+    let check = packet_check(lent, bytes.len(), served, unfit);
     if let Err(refusal) = check {
         return answered(state, Err(refusal));
     }
     let length = copy(bytes, ep0);
     let sequence = next_sequence(first, state.tx_seq);
-    let end = ep0_tx_ready(ops, 0, sequence, length as u32);
+    let mut list = OpList::new(ops);
+    ep0_tx_ready(&mut list, sequence, length as u32);
     state.endpoints[1] = staged(state.endpoints[1]);
     state.in_last = last;
     Listed {
         state,
         answer: Ok(Stage::Accepted),
-        end,
+        end: list.end,
         wakes: no_wakes(),
     }
 }

@@ -8,11 +8,11 @@ ghost use Rattle.control_stage.specs.Stage.{stage_numbers, stage_says};
 ghost use Rattle.control_out.specs.DataOut.{data_out_conditions, data_out_call};
 
 use control_stage::{Stage, admit_stage, answered, is_served, staged};
+use ops::OpList;
 use regs_control::ep0_rx_ready;
 use state::{Events, State};
-use state_call::Listed;
+use state_call::{ListEntry, Listed};
 use state_slots::waking::no_wakes;
-use state_sound::sound;
 
 // Takes the next packet of a data stage from the host.
 pub fn data_out(ops: &mut [u32], mut state: State, events: Events, generation: u32) -> Listed<Stage>
@@ -22,18 +22,21 @@ pub fn data_out(ops: &mut [u32], mut state: State, events: Events, generation: u
     ensures wakes { result.wakes ≡ (data_out_call (length ops.old) state events generation).wakes }
     ensures numbers { stage_numbers result.answer ≡ stage_says (first_refusal (data_out_conditions (length ops.old) state events generation)) (0 ∷ []) }
 {
-    let good = sound(state, events);
-    let served = is_served(state.powered, state.control_generation, generation);
-    let check = admit_stage(ops.len(), good, state.awaited, !served);
+    let lent = ListEntry::new(ops.len(), &state, events);
+    let check = admit_stage(
+        lent,
+        !is_served(state.powered, state.control_generation, generation),
+    );
     if let Err(refusal) = check {
         return answered(state, Err(refusal));
     }
-    let end = ep0_rx_ready(ops, 0);
+    let mut list = OpList::new(ops);
+    ep0_rx_ready(&mut list);
     state.endpoints[0] = staged(state.endpoints[0]);
     Listed {
         state,
         answer: Ok(Stage::Accepted),
-        end,
+        end: list.end,
         wakes: no_wakes(),
     }
 }

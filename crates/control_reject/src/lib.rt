@@ -8,9 +8,10 @@ ghost use Rattle.control_stage.specs.Stage.{servedb, stage_numbers, stage_says};
 ghost use Rattle.control_reject.specs.Reject.{reject_conditions, reject_call};
 
 use control_stage::{Stage, answered, is_served};
+use ops::OpList;
 use regs_control::ep0_stall;
 use state::{Events, State};
-use state_call::{Listed, admit};
+use state_call::{Entry, ListEntry, Listed};
 use state_slots::waking::no_wakes;
 use state_sound::sound;
 
@@ -22,19 +23,25 @@ pub fn reject(ops: &mut [u32], state: State, events: Events, generation: u32) ->
     ensures wakes { result.wakes ≡ (reject_call (length ops.old) state events generation).wakes }
     ensures numbers { stage_numbers result.answer ≡ stage_says (first_refusal (reject_conditions (length ops.old) state events)) (cond (servedb state generation) (0 ∷ []) []) }
 {
-    let good = sound(state, events);
-    let check = admit(ops.len(), good, state.awaited);
+    // of values: lent to `ListEntry::new`, the state is copied once more
+    let entry = Entry {
+        good: sound(state, events),
+        awaited: state.awaited,
+    };
+    let room = ops.len();
+    let check = ListEntry { room, entry }.admit();
     if let Err(refusal) = check {
         return answered(state, Err(refusal));
     }
-    let served = is_served(state.powered, state.control_generation, generation);
-    if !served {
+    if !is_served(state.powered, state.control_generation, generation) {
         return answered(state, Ok(Stage::Unanswered));
     }
+    let mut list = OpList::new(ops);
+    ep0_stall(&mut list);
     Listed {
         state,
         answer: Ok(Stage::Accepted),
-        end: ep0_stall(ops, 0),
+        end: list.end,
         wakes: no_wakes(),
     }
 }

@@ -2,13 +2,12 @@
 // device.rs).
 #![tactic(auto)]
 
-ghost use Rattle.std.specs.Prelude.{◌≡◌, ◌+◌, ◌≤◌, length as list_length};
-ghost use Rattle.ops.specs.Ops.{records};
-ghost use Rattle.ops.specs.Wrote.{Wrote};
+ghost use Rattle.std.specs.Prelude.{◌≡◌};
+ghost use Rattle.ops.specs.Lists.{Room, Adds};
 ghost use Rattle.control_report.specs.Ep0.{setup_ops, setup_received, reset_by, address_due, status_ops, received_slot, sequence_ops};
 
 use bus_reset::{control_reset, reset_state};
-use ops::{Field, Value};
+use ops::{Field, OpList, Value};
 use regs_control::{
     ep0_rx_clear, ep0_rx_ready, ep0_tx_answer, ep0_tx_clear, set_address, status_ack,
 };
@@ -16,13 +15,13 @@ use state::{Setup, Slot, State, Transfer};
 use state_slots::completing::moved;
 
 // A SETUP has come: both directions are cleared and its flag acknowledged, before its bytes are read.
-pub fn setup_flag(ops: &mut [u32], at: usize) -> usize
-    requires { at + records 3 ≤ list_length ops.old }
-    ensures { Wrote ops.old at setup_ops result ops.new }
+pub fn setup_flag(list: &mut OpList<'_>)
+    requires { Room 3 list.old }
+    ensures { Adds list.old setup_ops list.new }
 {
-    let a = ep0_tx_clear(ops, at);
-    let b = ep0_rx_clear(ops, a);
-    status_ack(ops, b, Field::UdifSetup)
+    ep0_tx_clear(list);
+    ep0_rx_clear(list);
+    status_ack(list, Field::UdifSetup);
 }
 
 // Its bytes end the control transfer in hand, and wait to be fetched.
@@ -48,25 +47,24 @@ pub fn reset_by(bus: bool, state: State, setup: Option<Setup>) -> State
 }
 
 // The address that waits for the status stage.
-fn address_due(ops: &mut [u32], at: usize, address: Option<u8>) -> usize
-    requires { at + records 1 ≤ list_length ops.old }
-    ensures { Wrote ops.old at (address_due address) result ops.new }
+fn address_due(list: &mut OpList<'_>, address: Option<u8>)
+    requires { Room 1 list.old }
+    ensures { Adds list.old (address_due address) list.new }
 {
-    match address {
-        Some(address) => set_address(ops, at, address as u32),
-        None => at,
+    if let Some(address) = address {
+        set_address(list, address as u32);
     }
 }
 
 // The registers of a status stage: an address that waits takes hold.
-pub fn status_stage(ops: &mut [u32], at: usize, address: Option<u8>) -> usize
-    requires { at + records 5 ≤ list_length ops.old }
-    ensures { Wrote ops.old at (status_ops address) result ops.new }
+pub fn status_stage(list: &mut OpList<'_>, address: Option<u8>)
+    requires { Room 5 list.old }
+    ensures { Adds list.old (status_ops address) list.new }
 {
-    let a = status_ack(ops, at, Field::UdifStatus);
-    let b = address_due(ops, a, address);
-    let c = ep0_tx_clear(ops, b);
-    ep0_rx_ready(ops, c)
+    status_ack(list, Field::UdifStatus);
+    address_due(list, address);
+    ep0_tx_clear(list);
+    ep0_rx_ready(list);
 }
 
 // A packet of so many bytes has come in.
@@ -81,13 +79,14 @@ pub fn received_slot(slot: Slot, length: u32) -> Slot
 }
 
 // A packet has gone out: the status stage follows, or NRDY until the next packet is ready.
-pub fn answer_packet(ops: &mut [u32], at: usize, follows: bool) -> usize
-    requires { at + records 3 ≤ list_length ops.old }
-    ensures { Wrote ops.old at (sequence_ops follows) result ops.new }
+pub fn answer_packet(list: &mut OpList<'_>, follows: bool)
+    requires { Room 3 list.old }
+    ensures { Adds list.old (sequence_ops follows) list.new }
 {
     if follows {
-        let end = ep0_tx_answer(ops, at, Value::Dph);
-        return ep0_rx_ready(ops, end);
+        ep0_tx_answer(list, Value::Dph);
+        ep0_rx_ready(list);
+        return;
     }
-    ep0_tx_answer(ops, at, Value::Nrdy)
+    ep0_tx_answer(list, Value::Nrdy);
 }

@@ -5,9 +5,8 @@ ghost use Rattle.std.specs.Prelude.{◌≡◌};
 ghost use Rattle.control_setup.specs.Setup.{fetched, setup_call, setup_numbers, setup_says};
 
 use state::{Events, Setup, State};
-use state_call::{Answered, turn_of};
+use state_call::{Answered, Entry};
 use state_slots::waking::no_wakes;
-use state_sound::sound;
 
 // A SETUP's eight bytes, and the generation that the stages of their transfer are to name.
 #[derive(Clone, Copy)]
@@ -32,8 +31,7 @@ pub fn setup(mut state: State, events: Events) -> Answered<Option<Fetched>>
     ensures wakes { result.wakes ≡ (setup_call state events).wakes }
     ensures numbers { setup_numbers result.answer ≡ setup_says state events }
 {
-    let good = sound(state, events);
-    let check = turn_of(good, state.awaited);
+    let check = Entry::new(&state, events).admit();
     let wakes = no_wakes();
     if let Err(refusal) = check {
         return Answered {

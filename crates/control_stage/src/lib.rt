@@ -1,17 +1,16 @@
 // What the stages of a control transfer share, and the answer to a request (reference: control.rs).
 #![tactic(auto)]
 
-ghost use Rattle.std.specs.Prelude.{◌≡◌, not, ◌&&◌, [], ◌∷◌, eqb};
+ghost use Rattle.std.specs.Prelude.{◌≡◌, ◌&&◌, [], ◌∷◌, eqb};
 ghost use Rattle.state.specs.declared.Refusal.TheVariants.{Disabled};
 ghost use Rattle.state.specs.Refusals.{◌if◌, first_refusal};
 ghost use Rattle.state_slots.specs.Waking.{no_wakes};
 ghost use Rattle.state_call.specs.Turn.{admitted_of};
-ghost use Rattle.control_stage.specs.Stage.{staged_slot};
+ghost use Rattle.control_stage.specs.Stage.{ep0_unfit, staged_slot};
 
 use state::refusals::refuse_if;
-use state::{Awaited, EP0_SIZE, Phase, Refusal, Slot, State};
-use state_call::{Listed, admit};
-use state_slots::completing::moved;
+use state::{EP0_SIZE, Phase, Refusal, Slot, State};
+use state_call::{ListEntry, Listed};
 use state_slots::waking::no_wakes;
 
 // What a stage that isn't refused comes to. `Unanswered`: document 01 has no number for it.
@@ -21,7 +20,8 @@ pub enum Stage {
     Unanswered,
 }
 
-// Whether a stage's generation is that of the last SETUP or bus reset, while there is power.
+// Whether a stage's generation is that of the last SETUP or bus reset, while there is power. The state lent in place of its
+// two parts was tried, and takes 155 instructions more in `accept` and `reject`.
 pub fn is_served(powered: bool, current: u32, generation: u32) -> bool
     ensures { result ≡ (powered && eqb current generation) }
 {
@@ -29,24 +29,27 @@ pub fn is_served(powered: bool, current: u32, generation: u32) -> bool
 }
 
 // Whether EP0's lent buffer is another than the state's.
-pub fn is_unfit(ep0_address: u32, address: u32, size: usize) -> bool
-    ensures { result ≡ not (eqb address ep0_address && eqb size 512) }
+pub fn is_unfit(state: &State, address: u32, size: usize) -> bool
+    ensures { result ≡ ep0_unfit state.now address size }
 {
-    address != ep0_address || size != EP0_SIZE as usize
+    address != state.ep0_address || size != EP0_SIZE as usize
 }
 
 // A slot of endpoint 0 under way.
 pub fn staged(slot: Slot) -> Slot
     ensures { result ≡ staged_slot slot }
 {
-    moved(slot, Phase::Busy, slot.transfer)
+    Slot {
+        phase: Phase::Busy,
+        ..slot
+    }
 }
 
 // What every call with a list is refused by, and then 22: `due` where the stage isn't served.
-pub fn admit_stage(room: usize, good: bool, awaited: Awaited, due: bool) -> Result<(), Refusal>
-    ensures { result ≡ first_refusal (admitted_of room good awaited.next (Disabled if due ∷ [])) }
+pub fn admit_stage(lent: ListEntry, due: bool) -> Result<(), Refusal>
+    ensures { result ≡ first_refusal (admitted_of lent.room lent.entry.good lent.entry.awaited.next (Disabled if due ∷ [])) }
 {
-    admit(room, good, awaited)?;
+    lent.admit()?;
     refuse_if(due, Refusal::Disabled)
 }
 

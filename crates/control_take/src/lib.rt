@@ -11,11 +11,9 @@ ghost use Rattle.control_take.specs.Take.{doneb, idle_slot, take_in_call, take_i
 
 use control_stage::is_served;
 use state::refusals::refuse_if;
-use state::{Awaited, Events, Phase, Refusal, Slot, State};
-use state_call::{Answered, turn_of};
-use state_slots::completing::moved;
+use state::{Events, Phase, Refusal, Slot, State};
+use state_call::{Answered, Entry};
 use state_slots::waking::no_wakes;
-use state_sound::sound;
 
 pub fn is_done(phase: Phase) -> bool
     ensures { result ≡ doneb phase }
@@ -26,7 +24,10 @@ pub fn is_done(phase: Phase) -> bool
 pub fn idle(slot: Slot) -> Slot
     ensures { result ≡ idle_slot slot }
 {
-    moved(slot, Phase::Idle, slot.transfer)
+    Slot {
+        phase: Phase::Idle,
+        ..slot
+    }
 }
 
 // No list and no wakes.
@@ -43,10 +44,10 @@ pub fn answered(state: State, answer: Result<Option<u32>, Refusal>) -> Answered<
 }
 
 // What a stage of endpoint 0 is refused by: its generation, and EP0's buffer where it is lent.
-pub fn stage_check(good: bool, awaited: Awaited, served: bool, unfit: bool) -> Result<(), Refusal>
-    ensures { result ≡ first_refusal (turn_of good awaited.next (Disabled if not served ∷ UnfitBuffer if unfit ∷ [])) }
+pub fn stage_check(entry: Entry, served: bool, unfit: bool) -> Result<(), Refusal>
+    ensures { result ≡ first_refusal (turn_of entry.good entry.awaited.next (Disabled if not served ∷ UnfitBuffer if unfit ∷ [])) }
 {
-    turn_of(good, awaited)?;
+    entry.admit()?;
     refuse_if(!served, Refusal::Disabled)?;
     refuse_if(unfit, Refusal::UnfitBuffer)
 }
@@ -58,15 +59,13 @@ pub fn take_in(mut state: State, events: Events, generation: u32) -> Answered<Op
     ensures wakes { result.wakes ≡ (take_in_call state events generation).wakes }
     ensures numbers { take_numbers result.answer ≡ take_in_says state events generation }
 {
-    let good = sound(state, events);
     let served = is_served(state.powered, state.control_generation, generation);
-    let check = stage_check(good, state.awaited, served, false);
+    let check = stage_check(Entry::new(&state, events), served, false);
     if let Err(refusal) = check {
         return answered(state, Err(refusal));
     }
     let slot = state.endpoints[1];
-    let done = is_done(slot.phase);
-    if !done {
+    if !is_done(slot.phase) {
         return answered(state, Ok(None));
     }
     state.endpoints[1] = idle(slot);

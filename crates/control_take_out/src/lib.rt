@@ -11,8 +11,7 @@ use control_stage::{is_served, is_unfit};
 use control_take::{answered, idle, is_done, stage_check};
 use state::refusals::refuse_if;
 use state::{EP0_SIZE, Events, Refusal, State};
-use state_call::Answered;
-use state_sound::sound;
+use state_call::{Answered, Entry};
 
 // More has come than there is room for, or than EP0's 512 bytes hold.
 fn is_too_long(received: u32, room: usize) -> bool
@@ -48,16 +47,14 @@ pub fn take_out(
     ensures numbers { take_numbers result.answer ≡ take_out_says state events generation (length out.old) ep0.now address }
     ensures lent { out.new ≡ front (take_out_call state events generation (length out.old) ep0.now address).copied out.old }
 {
-    let good = sound(state, events);
     let served = is_served(state.powered, state.control_generation, generation);
-    let unfit = is_unfit(state.ep0_address, address, ep0.len());
-    let check = stage_check(good, state.awaited, served, unfit);
+    let unfit = is_unfit(&state, address, ep0.len());
+    let check = stage_check(Entry::new(&state, events), served, unfit);
     if let Err(refusal) = check {
         return answered(state, Err(refusal));
     }
     let slot = state.endpoints[0];
-    let done = is_done(slot.phase);
-    if !done {
+    if !is_done(slot.phase) {
         return answered(state, Ok(None));
     }
     state.endpoints[0] = idle(slot);

@@ -17,12 +17,12 @@ use state_slots::slot_number;
 fn packet_size_valid(request: EndpointRequest) -> bool
     ensures { result ≡ size_fits present request.ep_type request.max_packet_size request.interval_ms }
 {
-    let periodic = (1..=1024).contains(&request.max_packet_size) && request.interval_ms != 0;
     match request.ep_type {
         EndpointType::Control => false,
-        EndpointType::Isochronous => periodic,
         EndpointType::Bulk => request.max_packet_size == 1024,
-        EndpointType::Interrupt => periodic,
+        EndpointType::Isochronous | EndpointType::Interrupt => {
+            (1..=1024).contains(&request.max_packet_size) && request.interval_ms != 0
+        }
     }
 }
 
@@ -35,20 +35,14 @@ fn burst_valid(request: EndpointRequest) -> bool
 fn direction_valid(requested: Option<EndpointAddress>, incoming: bool) -> bool
     ensures { result ≡ direction_fits requested incoming }
 {
-    match requested {
-        Some(address) => address.incoming == incoming,
-        None => true,
-    }
+    requested.is_none_or(|address| address.incoming == incoming)
 }
 
 // Whether an endpoint is the one requested, if one is.
 fn index_valid(requested: Option<EndpointAddress>, index: u8) -> bool
     ensures { result ≡ index_fits requested index }
 {
-    match requested {
-        Some(address) => address.index == index,
-        None => true,
-    }
+    requested.is_none_or(|address| address.index == index)
 }
 
 // Whether an endpoint isn't allocated yet, and is the one requested if one is.

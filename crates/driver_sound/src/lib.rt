@@ -7,26 +7,22 @@ ghost use Rattle.state_sound.specs.Sound.{driver_soundb, configb, memoryb, alloc
 use state::{Driver, EndpointConfig};
 use state_sound::{config_fits, in_ram, is_aligned};
 
-// What is allocated for slot i.
+// Whether what is allocated for slot i fits it.
 #[tactic(auto, unfolding(state_sound::specs::Sound::configb))]
 fn allocation_sound(i: usize, allocation: Option<EndpointConfig>) -> bool
     ensures { result ≡ configb i allocation }
 {
-    match allocation {
-        Some(config) => config_fits(i, config),
-        None => true,
-    }
+    allocation.is_none_or(|config| config_fits(i, config))
 }
 
 fn allocations_sound(driver: Driver) -> bool
     ensures { result ≡ allocationsb driver 16 }
 {
-    for i in 0..16 {
-        if !allocation_sound(i, driver.endpoints[i]) {
-            return false;
-        }
-    }
-    true
+    driver
+        .endpoints
+        .iter()
+        .enumerate()
+        .all(|(i, allocation)| allocation_sound(i, *allocation))
 }
 
 #[tactic(auto, unfolding(state_sound::specs::Sound::memoryb))]

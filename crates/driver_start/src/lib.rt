@@ -10,10 +10,8 @@ ghost use Rattle.driver_start.specs.Start.{configured_slot, start_own, start_con
 
 use driver_sound::driver_sound;
 use state::refusals::refuse_if;
-use state::{
-    Awaited, Driver, EP0_SIZE, EndpointConfig, Events, POWER, Refusal, Slot, State, Wakes,
-};
-use state_call::turn_of;
+use state::{Driver, EP0_SIZE, EndpointConfig, Events, POWER, Refusal, Slot, State, Wakes};
+use state_call::Entry;
 use state_slots::reset;
 use state_slots::waking::no_wakes;
 use state_sound::sound;
@@ -36,10 +34,10 @@ fn start_slot(i: usize, slot: Slot, config: Option<EndpointConfig>) -> Slot
     }
 }
 
-fn start_check(good: bool, awaited: Awaited, size: u16) -> Result<(), Refusal>
-    ensures { result ≡ first_refusal (turn_of good awaited.next (start_own size)) }
+fn start_check(entry: Entry, size: u16) -> Result<(), Refusal>
+    ensures { result ≡ first_refusal (turn_of entry.good entry.awaited.next (start_own size)) }
 {
-    turn_of(good, awaited)?;
+    entry.admit()?;
     refuse_if(size as u32 != EP0_SIZE, Refusal::ControlPacketSize)
 }
 
@@ -57,8 +55,11 @@ pub fn start(
     ensures wakes { result.wakes ≡ (start_call state events driver control_max_packet_size).wakes }
     ensures number { check_number result.answer ≡ check_number (first_refusal (start_conditions state events driver control_max_packet_size)) }
 {
-    let good = sound(state, events) && driver_sound(driver);
-    let check = start_check(good, state.awaited, control_max_packet_size);
+    let entry = Entry {
+        good: sound(state, events) && driver_sound(driver),
+        awaited: state.awaited,
+    };
+    let check = start_check(entry, control_max_packet_size);
     let wakes = no_wakes();
     if let Err(refusal) = check {
         return StartResult {

@@ -5,3 +5,4 @@ pub mod ReceiveLaws
 pub mod MoveLaws
 pub mod MoveKeeps
 pub mod IgnoredLaws
+pub mod OwnLaws

@@ -26,7 +26,7 @@ pub fn nothing(
     plan: Plan,
     total: usize,
 ) -> Listed<Move>
-    ensures answer { result.answer ≡ or_else (first_refusal (begin_conditions room state events index true plan.piece plan.long plan.unfit)) Err (Ok (Ended total)) }
+    ensures answer { result.answer ≡ or_else (first_refusal (begin_conditions room state events index true plan.piece plan.faults.long plan.faults.unfit)) Err (Ok (Ended total)) }
     ensures state { result.state ≡ state }
     ensures end { result.end ≡ 0 }
     ensures wakes { result.wakes ≡ no_wakes }
@@ -35,9 +35,7 @@ pub fn nothing(
         index,
         incoming: true,
     };
-    let check = begin_check(
-        room, &state, events, endpoint, plan.piece, plan.long, plan.unfit,
-    );
+    let check = begin_check(room, &state, events, endpoint, plan.piece, plan.faults);
     Listed {
         state,
         answer: check.and(Ok(Move::Ended(total))),

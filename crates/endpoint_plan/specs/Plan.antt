@@ -12,8 +12,7 @@ send_plan x k own_address own_size =
       piece = send_piece x k;
       direct = send_direct k;
       at = place k;
-      long = longer x k;
-      unfit = own_unfit x own_address own_size;
+      faults = record { long = longer x k; unfit = own_unfit x own_address own_size };
       begins = send_begins x k;
     }
 
@@ -23,7 +22,6 @@ receive_plan x k own_address own_size =
       piece = receive_piece x k;
       direct = receive_direct x k;
       at = place k;
-      long = false;
-      unfit = own_unfit x own_address own_size;
+      faults = record { long = false; unfit = own_unfit x own_address own_size };
       begins = true;
     }

@@ -14,7 +14,7 @@ use endpoint_choice::{
 };
 use endpoint_parts::{copy_part, piece};
 use state::{Refusal, Slot};
-use transfer_piece::Piece;
+use transfer_piece::{Faults, Piece};
 
 // The next piece; whether it is a part of the caller's bytes, and from where; what stands against it; and whether there
 // is one to be begun.
@@ -23,8 +23,7 @@ pub struct Plan {
     pub piece: Piece,
     pub direct: bool,
     pub at: usize,
-    pub long: bool,
-    pub unfit: bool,
+    pub faults: Faults,
     pub begins: bool,
 }
 
@@ -37,8 +36,10 @@ pub fn send_plan(slot: Slot, asked: Asked, address: u32, size: usize) -> Plan
         piece: chosen.piece,
         direct: chosen.direct,
         at: place(asked),
-        long: is_longer(slot, asked),
-        unfit: is_unfit(slot, address, size),
+        faults: Faults {
+            long: is_longer(slot, asked),
+            unfit: is_unfit(slot, address, size),
+        },
         begins: send_begins(slot, asked),
     }
 }
@@ -52,8 +53,10 @@ pub fn receive_plan(slot: Slot, asked: Asked, address: u32, size: usize) -> Plan
         piece: chosen.piece,
         direct: chosen.direct,
         at: place(asked),
-        long: false,
-        unfit: is_unfit(slot, address, size),
+        faults: Faults {
+            long: false,
+            unfit: is_unfit(slot, address, size),
+        },
         begins: true,
     }
 }

@@ -39,9 +39,7 @@ pub fn receive(
     };
     let slot = state.endpoints[slot_place(endpoint)];
     let plan = receive_plan(slot, asked, request.own_address, own.len());
-    let begun = begin(
-        ops, state, events, endpoint, plan.piece, plan.long, plan.unfit,
-    );
+    let begun = begin(ops, state, events, endpoint, plan.piece, plan.faults);
     Listed {
         state: begun.state,
         answer: begun_piece(begun.answer, plan, bytes, own),

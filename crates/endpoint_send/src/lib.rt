@@ -45,9 +45,7 @@ pub fn send(
     if !plan.begins {
         return nothing(ops.len(), state, events, index, plan, bytes.len());
     }
-    let begun = begin(
-        ops, state, events, endpoint, plan.piece, plan.long, plan.unfit,
-    );
+    let begun = begin(ops, state, events, endpoint, plan.piece, plan.faults);
     hand_over(begun.answer, plan, bytes, own);
     Listed {
         state: begun.state,

@@ -14,6 +14,7 @@ use interrupt_hear::{Effects, hear};
 use interrupt_link::LinkEffect;
 use interrupt_slots::{slot_heard, slots_heard};
 use interrupt_transfer::TransferEffect;
+use ops::OpList;
 use state::{Events, Reading, State};
 use state_sound::sound;
 use transfer_chain::CHAIN_PACKETS;
@@ -34,8 +35,7 @@ pub fn answer(
     ensures numbers { interrupt_numbers result.answer ≡ answer_says (length ops.old) state events reading }
 {
     let good = sound(state, events);
-    let open = is_open(ops.len(), good);
-    if let Err(refusal) = open {
+    if let Err(refusal) = is_open(ops.len(), good) {
         return refused(refusal, state, events);
     }
     let most = slots_heard(state.awaited);
@@ -66,7 +66,8 @@ pub fn answer(
             tx_seq: state.tx_seq,
         },
     };
-    let turn = match hear(ops, sight, effects, reading) {
+    let mut list = OpList::new(ops);
+    let turn = match hear(&mut list, sight, effects, reading) {
         Ok(turn) => turn,
         Err(refusal) => return refused(refusal, state, events),
     };
@@ -89,7 +90,7 @@ pub fn answer(
         state,
         events: link.events,
         answer: Ok(ending.awaited.next),
-        end: turn.end,
+        end: list.end,
         wakes: ending.wakes,
     }
 }

@@ -51,4 +51,4 @@ behind_change_ops f = cond f.link_if_term_pres (link_ack_ops number.link_if_term
 
 -- another reading awaited, or none, with what is remembered
 abbrev pub asked : Awaited → Option Awaiting → Awaited
-asked a next = record { next = next; flags = a.flags; link_state = a.link_state; endpoint = a.endpoint; packets = a.packets }
+asked a next = record a { next = next }

@@ -2,16 +2,15 @@
 // `link_irq` and `on_interrupt` of device.rs).
 #![tactic(auto)]
 
-ghost use Rattle.std.specs.Prelude.{◌≡◌, cond, ◌+◌, ◌≤◌, length};
-ghost use Rattle.ops.specs.Ops.{records};
-ghost use Rattle.ops.specs.Wrote.{Wrote};
+ghost use Rattle.std.specs.Prelude.{◌≡◌, cond};
+ghost use Rattle.ops.specs.Lists.{Room, Adds};
 ghost use Rattle.state.specs.Awaiting.{awaitingb};
 ghost use Rattle.state.specs.Fresh.{nothing_awaited};
 ghost use Rattle.state_slots.specs.Completing.{collected};
 ghost use Rattle.state_slots.specs.Waking.{no_wakes};
 ghost use Rattle.interrupt_asks.specs.Asking.{behind_timeout, behind_timeout_ops, behind_message, behind_message_ops, behind_sent, behind_sent_ops, sent_ops, behind_term_ops, behind_change, behind_change_ops, asked};
 
-use ops::Field;
+use ops::{Field, OpList};
 use regs_link::{go_disabled, go_rx_det, link_ack, tx_port_cap};
 use state::fresh::nothing_awaited;
 use state::readings::is_awaiting;
@@ -37,13 +36,6 @@ pub struct Ending {
     pub wakes: Wakes,
 }
 
-// The reading that is asked for next, or none, and where the list ends.
-#[derive(Clone, Copy)]
-pub struct Asked {
-    pub next: Option<Awaiting>,
-    pub end: usize,
-}
-
 // What readings look at.
 #[derive(Clone, Copy)]
 pub struct Sight {
@@ -61,95 +53,82 @@ pub struct Sight {
     pub place: usize,
 }
 
-// What a reading leaves of what it may change, what is awaited behind it, and where the list ends.
+// What a reading leaves of what it may change, and what is awaited behind it.
 #[derive(Clone, Copy)]
 pub struct Turn<E> {
     pub effect: E,
     pub awaited: Awaited,
-    pub end: usize,
 }
 
 // A warm reset asks for the link's status once more; else the transfer status is due.
-fn behind_timeout(ops: &mut [u32], at: usize, flags: LinkFlags) -> Asked
-    requires { at + records 1 ≤ length ops.old }
-    ensures next { result.next ≡ behind_timeout flags }
-    ensures list { Wrote ops.old at (behind_timeout_ops flags) result.end ops.new }
+fn behind_timeout(list: &mut OpList<'_>, flags: LinkFlags) -> Option<Awaiting>
+    requires { Room 1 list.old }
+    ensures next { result ≡ behind_timeout flags }
+    ensures list { Adds list.old (behind_timeout_ops flags) list.new }
 {
     if flags.link_if_warm_rst {
-        return Asked {
-            next: Some(Awaiting::WarmResetStatus),
-            end: link_ack(ops, at, Field::LinkIfWarmRst),
-        };
+        link_ack(list, Field::LinkIfWarmRst);
+        return Some(Awaiting::WarmResetStatus);
     }
-    Asked {
-        next: Some(Awaiting::TransferStatus),
-        end: at,
-    }
+    Some(Awaiting::TransferStatus)
 }
 
 // A message that timed out takes the link down and ends handling: the transfer flags are left for the next interrupt.
-pub fn behind_message(ops: &mut [u32], at: usize, flags: LinkFlags) -> Asked
-    requires { at + records 3 ≤ length ops.old }
-    ensures next { result.next ≡ behind_message flags }
-    ensures list { Wrote ops.old at (behind_message_ops flags) result.end ops.new }
+pub fn behind_message(list: &mut OpList<'_>, flags: LinkFlags) -> Option<Awaiting>
+    requires { Room 3 list.old }
+    ensures next { result ≡ behind_message flags }
+    ensures list { Adds list.old (behind_message_ops flags) list.new }
 {
     if flags.link_if_rx_lmp_tout {
-        let a = link_ack(ops, at, Field::LinkIfRxLmpTout);
-        let b = go_disabled(ops, a, true);
-        return Asked {
-            next: None,
-            end: go_rx_det(ops, b),
-        };
+        link_ack(list, Field::LinkIfRxLmpTout);
+        go_disabled(list, true);
+        go_rx_det(list);
+        return None;
     }
-    behind_timeout(ops, at, flags)
+    behind_timeout(list, flags)
 }
 
-fn behind_sent(ops: &mut [u32], at: usize, flags: LinkFlags) -> Asked
-    requires { at + records 3 ≤ length ops.old }
-    ensures next { result.next ≡ behind_sent flags }
-    ensures list { Wrote ops.old at (behind_sent_ops flags) result.end ops.new }
+fn behind_sent(list: &mut OpList<'_>, flags: LinkFlags) -> Option<Awaiting>
+    requires { Room 3 list.old }
+    ensures next { result ≡ behind_sent flags }
+    ensures list { Adds list.old (behind_sent_ops flags) list.new }
 {
     if flags.link_if_rx_lmp {
-        return Asked {
-            next: Some(Awaiting::MessageWord),
-            end: link_ack(ops, at, Field::LinkIfRxLmp),
-        };
+        link_ack(list, Field::LinkIfRxLmp);
+        return Some(Awaiting::MessageWord);
     }
-    behind_message(ops, at, flags)
+    behind_message(list, flags)
 }
 
-fn send(ops: &mut [u32], at: usize, flags: LinkFlags) -> usize
-    requires { at + records 4 ≤ length ops.old }
-    ensures { Wrote ops.old at (sent_ops flags) result ops.new }
+fn send(list: &mut OpList<'_>, flags: LinkFlags)
+    requires { Room 4 list.old }
+    ensures { Adds list.old (sent_ops flags) list.new }
 {
     if flags.link_if_tx_lmp {
-        let a = link_ack(ops, at, Field::LinkIfTxLmp);
-        return tx_port_cap(ops, a);
+        link_ack(list, Field::LinkIfTxLmp);
+        tx_port_cap(list);
     }
-    at
 }
 
-pub fn behind_term(ops: &mut [u32], at: usize, flags: LinkFlags) -> Asked
-    requires { at + records 7 ≤ length ops.old }
-    ensures next { result.next ≡ behind_sent flags }
-    ensures list { Wrote ops.old at (behind_term_ops flags) result.end ops.new }
+pub fn behind_term(list: &mut OpList<'_>, flags: LinkFlags) -> Option<Awaiting>
+    requires { Room 7 list.old }
+    ensures next { result ≡ behind_sent flags }
+    ensures list { Adds list.old (behind_term_ops flags) list.new }
 {
-    let a = send(ops, at, flags);
-    behind_sent(ops, a, flags)
+    send(list, flags);
+    behind_sent(list, flags)
 }
 
-pub fn behind_change(ops: &mut [u32], at: usize, flags: LinkFlags) -> Asked
-    requires { at + records 7 ≤ length ops.old }
-    ensures next { result.next ≡ behind_change flags }
-    ensures list { Wrote ops.old at (behind_change_ops flags) result.end ops.new }
+pub fn behind_change(list: &mut OpList<'_>, flags: LinkFlags) -> Option<Awaiting>
+    requires { Room 7 list.old }
+    ensures next { result ≡ behind_change flags }
+    ensures list { Adds list.old (behind_change_ops flags) list.new }
 {
     if flags.link_if_term_pres {
-        return Asked {
-            next: Some(Awaiting::TermPresStatus),
-            end: link_ack(ops, at, Field::LinkIfTermPres),
-        };
+        link_ack(list, Field::LinkIfTermPres);
+        return Some(Awaiting::TermPresStatus);
     }
-    behind_term(ops, at, flags)
+    behind_term(list, flags)
 }
 
 // Another reading awaited, or none, with what is remembered.

@@ -11,9 +11,8 @@ use interrupt_asks::{InterruptResult, settle};
 use state::fresh::nothing_awaited;
 use state::refusals::refuse_if;
 use state::{Awaited, Awaiting, Events, Refusal, State};
-use state_call::admit;
+use state_call::ListEntry;
 use state_slots::waking::no_wakes;
-use state_sound::sound;
 
 // A refused call changes nothing.
 pub fn refused(refusal: Refusal, state: State, events: Events) -> InterruptResult
@@ -51,8 +50,7 @@ pub fn interrupt(ops: &mut [u32], mut state: State, events: Events) -> Interrupt
     ensures wakes { result.wakes ≡ (interrupt_call (length ops.old) state events).wakes }
     ensures numbers { interrupt_numbers result.answer ≡ interrupt_says (length ops.old) state events }
 {
-    let good = sound(state, events);
-    let check = admit(ops.len(), good, state.awaited);
+    let check = ListEntry::new(ops.len(), &state, events).admit();
     if let Err(refusal) = check {
         return refused(refusal, state, events);
     }

@@ -1,8 +1,9 @@
 // The readings of a chain (reference: `data_irq` of device.rs).
 #![tactic(auto, unfolding(interrupt_followers::specs::Pieces::heard_pieces))]
 
-ghost use Rattle.std.specs.Prelude.{◌≤◌, List, ℕ, Some, length};
-ghost use Rattle.ops.specs.Ops.{list_numbers};
+ghost use Rattle.std.specs.Prelude.{Some};
+ghost use Rattle.ops.specs.Lists.{Room};
+ghost use Rattle.ops.specs.declared.OpList.{OpList};
 ghost use Rattle.state.specs.declared.Awaiting.TheVariants as awaiting;
 ghost use Rattle.interrupt_asks.specs.Turns.{Takes};
 ghost use Rattle.interrupt_readings.specs.Matched.{reading_own};
@@ -10,6 +11,7 @@ ghost use Rattle.interrupt_followers.specs.Pieces.{pieces_heard};
 
 use interrupt_asks::{Sight, Turn};
 use interrupt_transfer::{TransferEffect, report_pieces};
+use ops::OpList;
 use state::refusals::refuse_if;
 use state::{Awaited, Awaiting, EndpointAddress, Reading, Refusal};
 use transfer_chain::Report;
@@ -20,7 +22,7 @@ pub fn on_chain_packets(
     effect: TransferEffect,
     reading: Reading,
 ) -> Result<Turn<TransferEffect>, Refusal>
-    ensures { (l : List ℕ) → Takes l (reading_own (Some awaiting.ChainPackets) reading) (pieces_heard sight effect (Some awaiting.ChainPackets) reading) result l }
+    ensures { (l : OpList) → Takes l (reading_own (Some awaiting.ChainPackets) reading) (pieces_heard sight effect (Some awaiting.ChainPackets) reading) result l }
 {
     let Reading::ChainPackets(packets) = reading else {
         return Err(Refusal::OutOfTurn);
@@ -33,18 +35,17 @@ pub fn on_chain_packets(
             packets: packets as u8,
             ..sight.awaited
         },
-        end: 0,
     })
 }
 
 pub fn on_last_length(
-    ops: &mut [u32],
+    list: &mut OpList<'_>,
     sight: Sight,
     effect: TransferEffect,
     reading: Reading,
 ) -> Result<Turn<TransferEffect>, Refusal>
-    requires { list_numbers ≤ length ops.old }
-    ensures { Takes ops.old (reading_own (Some awaiting.LastLength) reading) (pieces_heard sight effect (Some awaiting.LastLength) reading) result ops.new }
+    requires { Room 128 list.old }
+    ensures { Takes list.old (reading_own (Some awaiting.LastLength) reading) (pieces_heard sight effect (Some awaiting.LastLength) reading) result list.new }
 {
     let Reading::LastLength(last) = reading else {
         return Err(Refusal::OutOfTurn);
@@ -58,5 +59,5 @@ pub fn on_last_length(
         packets: sight.awaited.packets as u32,
         last,
     };
-    Ok(report_pieces(ops, 0, sight, effect, endpoint, report))
+    Ok(report_pieces(list, sight, effect, endpoint, report))
 }

@@ -1,67 +1,60 @@
 // What an interrupt does where the link has come to another state (reference: `link_irq` of device.rs).
 #![tactic(auto)]
 
-ghost use Rattle.std.specs.Prelude.{◌≡◌, ◌+◌, ◌≤◌, ◌++◌, length};
-ghost use Rattle.ops.specs.Ops.{records};
-ghost use Rattle.ops.specs.Wrote.{Wrote};
+ghost use Rattle.std.specs.Prelude.{◌≡◌, ◌+◌, ◌++◌};
+ghost use Rattle.ops.specs.Lists.{Room, Adds};
 ghost use Rattle.regs_link.specs.Link.{phy_write_ops, hot_reset_done_ops};
 ghost use Rattle.regs_device.specs.Device.{bus_reset_ops};
 ghost use Rattle.interrupt_link.specs.Actions.{rx_detected, link_reset, recovered, recovered_ops, came_up, asleep, link_change, link_change_ops, changed, changed_ops};
 
-use interrupt_link::{Acted, LinkEffect, link_reset, raise_if};
-use ops::Field;
+use interrupt_link::{LinkEffect, link_reset, raise_if};
+use ops::{Field, OpList};
 use regs_device::bus_reset;
 use regs_link::{delay_cycles, go_disabled, hot_reset_done, link_ack, phy_write};
 use state::LinkState;
 use state_events::{Event, raise_event};
 
 // RXDET: the host is gone.
-fn rx_detected(ops: &mut [u32], at: usize, ep0: u32, effect: LinkEffect) -> Acted
-    requires { at + records 83 ≤ length ops.old }
-    ensures effect { result.effect ≡ rx_detected effect }
-    ensures list { Wrote ops.old at (bus_reset_ops ep0) result.end ops.new }
+fn rx_detected(list: &mut OpList<'_>, ep0: u32, effect: LinkEffect) -> LinkEffect
+    requires { Room 83 list.old }
+    ensures effect { result ≡ rx_detected effect }
+    ensures list { Adds list.old (bus_reset_ops ep0) list.new }
 {
-    let end = bus_reset(ops, at, ep0);
-    Acted {
-        effect: LinkEffect {
-            resets: true,
-            suspended: false,
-            reset_seen: false,
-            low_power: false,
-            events: raise_if(effect.reset_seen, effect.events, Event::Suspend),
-        },
-        end,
+    bus_reset(list, ep0);
+    LinkEffect {
+        resets: true,
+        suspended: false,
+        reset_seen: false,
+        low_power: false,
+        events: raise_if(effect.reset_seen, effect.events, Event::Suspend),
     }
 }
 
-fn hot_reset(ops: &mut [u32], at: usize, ep0: u32, effect: LinkEffect) -> Acted
-    requires { at + records 84 ≤ length ops.old }
-    ensures effect { result.effect ≡ link_reset effect }
-    ensures list { Wrote ops.old at (bus_reset_ops ep0 ++ hot_reset_done_ops) result.end ops.new }
+#[tactic(auto, using(regs_device::specs::DeviceLaws::bus_reset_length))]
+fn hot_reset(list: &mut OpList<'_>, ep0: u32, effect: LinkEffect) -> LinkEffect
+    requires { Room 84 list.old }
+    ensures effect { result ≡ link_reset effect }
+    ensures list { Adds list.old (bus_reset_ops ep0 ++ hot_reset_done_ops) list.new }
 {
-    let a = bus_reset(ops, at, ep0);
-    Acted {
-        effect: link_reset(effect),
-        end: hot_reset_done(ops, a),
-    }
+    bus_reset(list, ep0);
+    hot_reset_done(list);
+    link_reset(effect)
 }
 
 // RECOVERY: out of low power the PHY gets the values of a link that is awake.
-fn recover(ops: &mut [u32], at: usize, effect: LinkEffect) -> Acted
-    requires { at + records 5 ≤ length ops.old }
-    ensures effect { result.effect ≡ recovered effect }
-    ensures list { Wrote ops.old at (recovered_ops effect.low_power) result.end ops.new }
+fn recover(list: &mut OpList<'_>, effect: LinkEffect) -> LinkEffect
+    requires { Room 5 list.old }
+    ensures effect { result ≡ recovered effect }
+    ensures list { Adds list.old (recovered_ops effect.low_power) list.new }
 {
     if !effect.low_power {
-        return Acted { effect, end: at };
+        return effect;
     }
-    let a = delay_cycles(ops, at, 4000);
-    Acted {
-        effect: LinkEffect {
-            low_power: false,
-            ..effect
-        },
-        end: phy_write(ops, a, 0x12, 0x67c8),
+    delay_cycles(list, 4000);
+    phy_write(list, 0x12, 0x67c8);
+    LinkEffect {
+        low_power: false,
+        ..effect
     }
 }
 
@@ -87,62 +80,55 @@ fn come_up(effect: LinkEffect) -> LinkEffect
 }
 
 // U1, U2 and U3: the PHY gets the values of a link that sleeps. `due`: this is a suspend.
-fn fall_asleep(ops: &mut [u32], at: usize, due: bool, effect: LinkEffect) -> Acted
-    requires { at + records 4 ≤ length ops.old }
-    ensures effect { result.effect ≡ asleep due effect }
-    ensures list { Wrote ops.old at (phy_write_ops 0x12 0x65c8) result.end ops.new }
+fn fall_asleep(list: &mut OpList<'_>, due: bool, effect: LinkEffect) -> LinkEffect
+    requires { Room 4 list.old }
+    ensures effect { result ≡ asleep due effect }
+    ensures list { Adds list.old (phy_write_ops 0x12 0x65c8) list.new }
 {
-    let end = phy_write(ops, at, 0x12, 0x65c8);
-    Acted {
-        effect: LinkEffect {
-            suspended: effect.suspended | due,
-            low_power: true,
-            events: raise_if(due, effect.events, Event::Suspend),
-            ..effect
-        },
-        end,
+    phy_write(list, 0x12, 0x65c8);
+    LinkEffect {
+        suspended: effect.suspended | due,
+        low_power: true,
+        events: raise_if(due, effect.events, Event::Suspend),
+        ..effect
     }
 }
 
-fn change(ops: &mut [u32], at: usize, ep0: u32, link_state: LinkState, effect: LinkEffect) -> Acted
-    requires { at + records 84 ≤ length ops.old }
-    ensures effect { result.effect ≡ link_change link_state effect }
-    ensures list { Wrote ops.old at (link_change_ops link_state ep0 effect.low_power) result.end ops.new }
+fn change(list: &mut OpList<'_>, ep0: u32, link_state: LinkState, effect: LinkEffect) -> LinkEffect
+    requires { Room 84 list.old }
+    ensures effect { result ≡ link_change link_state effect }
+    ensures list { Adds list.old (link_change_ops link_state ep0 effect.low_power) list.new }
 {
     match link_state {
-        LinkState::U0 => Acted {
-            effect: come_up(effect),
-            end: at,
-        },
-        LinkState::U1 | LinkState::U2 => fall_asleep(ops, at, false, effect),
-        LinkState::U3 => fall_asleep(ops, at, !effect.suspended & effect.reset_seen, effect),
-        LinkState::DISABLED => Acted {
-            effect,
-            end: go_disabled(ops, at, false),
-        },
-        LinkState::RXDET => rx_detected(ops, at, ep0, effect),
-        LinkState::RECOVERY => recover(ops, at, effect),
-        LinkState::HOTRST => hot_reset(ops, at, ep0, effect),
-        LinkState::OTHER => Acted { effect, end: at },
+        LinkState::U0 => come_up(effect),
+        LinkState::U1 | LinkState::U2 => fall_asleep(list, false, effect),
+        LinkState::U3 => fall_asleep(list, !effect.suspended & effect.reset_seen, effect),
+        LinkState::DISABLED => {
+            go_disabled(list, false);
+            effect
+        }
+        LinkState::RXDET => rx_detected(list, ep0, effect),
+        LinkState::RECOVERY => recover(list, effect),
+        LinkState::HOTRST => hot_reset(list, ep0, effect),
+        LinkState::OTHER => effect,
     }
 }
 
 // The state of the link has changed, where its flag says so.
 pub fn state_changed(
-    ops: &mut [u32],
-    at: usize,
+    list: &mut OpList<'_>,
     ep0: u32,
     flag: bool,
     link_state: LinkState,
     effect: LinkEffect,
-) -> Acted
-    requires { at + records 85 ≤ length ops.old }
-    ensures effect { result.effect ≡ changed flag link_state effect }
-    ensures list { Wrote ops.old at (changed_ops flag link_state ep0 effect.low_power) result.end ops.new }
+) -> LinkEffect
+    requires { Room 85 list.old }
+    ensures effect { result ≡ changed flag link_state effect }
+    ensures list { Adds list.old (changed_ops flag link_state ep0 effect.low_power) list.new }
 {
     if !flag {
-        return Acted { effect, end: at };
+        return effect;
     }
-    let a = link_ack(ops, at, Field::LinkIfStateChg);
-    change(ops, a, ep0, link_state, effect)
+    link_ack(list, Field::LinkIfStateChg);
+    change(list, ep0, link_state, effect)
 }

@@ -1,8 +1,9 @@
 // Endpoint 0's readings behind the transfer status, by the slot that each is about (reference: `ep0_irq` of device.rs).
 #![tactic(auto, unfolding(crate::specs::Pieces::heard_pieces))]
 
-ghost use Rattle.std.specs.Prelude.{ℕ, ◌≤◌, List, Some, length};
-ghost use Rattle.ops.specs.Ops.{list_numbers};
+ghost use Rattle.std.specs.Prelude.{Some};
+ghost use Rattle.ops.specs.Lists.{Room};
+ghost use Rattle.ops.specs.declared.OpList.{OpList};
 ghost use Rattle.state.specs.declared.Awaiting.TheVariants as awaiting;
 ghost use Rattle.interrupt_asks.specs.Turns.{Takes};
 ghost use Rattle.interrupt_readings.specs.Matched.{reading_own};
@@ -11,7 +12,7 @@ ghost use Rattle.interrupt_followers.specs.Pieces.{pieces_heard};
 use control_report::{answer_packet, received_slot};
 use interrupt_asks::{Sight, Turn};
 use interrupt_transfer::{TransferEffect, complete_pieces};
-use ops::Value;
+use ops::{OpList, Value};
 use regs_control::ep0_rx_answer;
 use state::fresh::nothing_awaited;
 use state::refusals::refuse_if;
@@ -22,7 +23,7 @@ pub fn on_setup_bytes(
     effect: TransferEffect,
     reading: Reading,
 ) -> Result<Turn<TransferEffect>, Refusal>
-    ensures { (l : List ℕ) (g : Sight) → Takes l (reading_own (Some awaiting.SetupBytes) reading) (pieces_heard g effect (Some awaiting.SetupBytes) reading) result l }
+    ensures { (l : OpList) (g : Sight) → Takes l (reading_own (Some awaiting.SetupBytes) reading) (pieces_heard g effect (Some awaiting.SetupBytes) reading) result l }
 {
     let Reading::SetupBytes(bytes) = reading else {
         return Err(Refusal::OutOfTurn);
@@ -33,18 +34,17 @@ pub fn on_setup_bytes(
             ..effect
         },
         awaited: nothing_awaited(),
-        end: 0,
     })
 }
 
 pub fn on_ep0_length(
-    ops: &mut [u32],
+    list: &mut OpList<'_>,
     sight: Sight,
     effect: TransferEffect,
     reading: Reading,
 ) -> Result<Turn<TransferEffect>, Refusal>
-    requires { list_numbers ≤ length ops.old }
-    ensures { Takes ops.old (reading_own (Some awaiting.Ep0Length) reading) (pieces_heard sight effect (Some awaiting.Ep0Length) reading) result ops.new }
+    requires { Room 128 list.old }
+    ensures { Takes list.old (reading_own (Some awaiting.Ep0Length) reading) (pieces_heard sight effect (Some awaiting.Ep0Length) reading) result list.new }
 {
     let Reading::Ep0Length(length) = reading else {
         return Err(Refusal::OutOfTurn);
@@ -54,29 +54,29 @@ pub fn on_ep0_length(
         slot: received_slot(effect.slot, length),
         ..effect
     };
+    ep0_rx_answer(list, Value::Nrdy);
     Ok(Turn {
         effect: complete_pieces(0, received),
         awaited: nothing_awaited(),
-        end: ep0_rx_answer(ops, 0, Value::Nrdy),
     })
 }
 
 // Behind the last packet, or where no stage is under way, the status stage completes the slot.
 pub fn on_ep0_sequence(
-    ops: &mut [u32],
+    list: &mut OpList<'_>,
     sight: Sight,
     effect: TransferEffect,
     reading: Reading,
 ) -> Result<Turn<TransferEffect>, Refusal>
-    requires { list_numbers ≤ length ops.old }
-    ensures { Takes ops.old (reading_own (Some awaiting.Ep0Sequence) reading) (pieces_heard sight effect (Some awaiting.Ep0Sequence) reading) result ops.new }
+    requires { Room 128 list.old }
+    ensures { Takes list.old (reading_own (Some awaiting.Ep0Sequence) reading) (pieces_heard sight effect (Some awaiting.Ep0Sequence) reading) result list.new }
 {
     let Reading::Ep0Sequence(sequence) = reading else {
         return Err(Refusal::OutOfTurn);
     };
     refuse_if(31 < sequence, Refusal::OutOfRange)?;
     let follows = sight.in_last | !is_busy(effect.slot.phase);
-    let end = answer_packet(ops, 0, follows);
+    answer_packet(list, follows);
     let sent = TransferEffect {
         tx_seq: sequence as u8,
         ..effect
@@ -88,6 +88,5 @@ pub fn on_ep0_sequence(
             complete_pieces(1, sent)
         },
         awaited: nothing_awaited(),
-        end,
     })
 }

@@ -5,3 +5,6 @@ pub mod RoomLaws
 pub mod InterruptKeeps
 pub mod Standard
 pub mod BegunLaws
+pub mod MatchedLaws
+pub mod HearLaws
+pub mod TurnedLaws

@@ -30,7 +30,7 @@ link_reset f = record { resets = true; suspended = false; reset_seen = true; low
 
 -- RECOVERY out of low power: the PHY is set for a link that is awake
 abbrev pub awake : LinkEffect → LinkEffect
-awake f = record { resets = f.resets; suspended = f.suspended; reset_seen = f.reset_seen; low_power = false; events = f.events }
+awake f = record f { low_power = false }
 
 abbrev pub recovered : LinkEffect → LinkEffect
 recovered f = cond f.low_power (awake f) f
@@ -40,10 +40,10 @@ recovered_ops low = cond low (delay_ops 4000 ++ phy_write_ops 0x12 0x67c8) []
 
 -- U0: the first is the only sign that link training finished; a later one ends a suspend
 abbrev pub trained : LinkEffect → LinkEffect
-trained f = record { resets = f.resets; suspended = f.suspended; reset_seen = true; low_power = f.low_power; events = raise_event f.events Reset }
+trained f = record f { reset_seen = true; events = raise_event f.events Reset }
 
 abbrev pub resumed : LinkEffect → LinkEffect
-resumed f = record { resets = f.resets; suspended = false; reset_seen = f.reset_seen; low_power = f.low_power; events = raise_event f.events Resume }
+resumed f = record f { suspended = false; events = raise_event f.events Resume }
 
 abbrev pub came_up : LinkEffect → LinkEffect
 came_up f = cond f.reset_seen (cond f.suspended (resumed f) f) (trained f)

@@ -2,11 +2,11 @@
 // (reference: `link_irq` of device.rs).
 #![tactic(auto)]
 
-ghost use Rattle.std.specs.Prelude.{◌≡◌, ◌+◌, ◌≤◌, length};
-ghost use Rattle.ops.specs.Ops.{records};
-ghost use Rattle.ops.specs.Wrote.{Wrote};
+ghost use Rattle.std.specs.Prelude.{◌≡◌};
+ghost use Rattle.ops.specs.Lists.{Room, Adds};
 ghost use Rattle.interrupt_link.specs.Actions.{raise_if, link_reset, term_present, lmp_subtype, message_ops, warmed, warmed_ops};
 
+use ops::OpList;
 use regs_device::bus_reset;
 use regs_link::{
     delay_cycles, go_disabled, link_power_allow, tx_cap_vld, tx_port_cap, tx_port_cfg_res, u2_timer,
@@ -33,12 +33,6 @@ pub struct LinkEffect {
     pub reset_seen: bool,
     pub low_power: bool,
     pub events: Events,
-}
-
-#[derive(Clone, Copy)]
-pub struct Acted {
-    pub effect: LinkEffect,
-    pub end: usize,
 }
 
 pub fn raise_if(due: bool, events: Events, event: Event) -> Events
@@ -84,34 +78,33 @@ fn subtype_of(word: u32) -> u32
 }
 
 // Word 0 of a link management packet, by its subtype.
-pub fn message(ops: &mut [u32], at: usize, revision: u8, word: u32) -> usize
-    requires { at + records 4 ≤ length ops.old }
-    ensures { Wrote ops.old at (message_ops revision word) result ops.new }
+pub fn message(list: &mut OpList<'_>, revision: u8, word: u32)
+    requires { Room 4 list.old }
+    ensures { Adds list.old (message_ops revision word) list.new }
 {
     match subtype_of(word) {
-        PORT_CAPABILITY => tx_port_cap(ops, at),
-        PORT_CONFIGURATION => tx_port_cfg_res(ops, at),
-        PORT_CONFIGURATION_RESPONSE => tx_cap_vld(ops, at),
-        U2_INACTIVITY_TIMEOUT => u2_timer(ops, at, word / 512 % 256),
-        SET_LINK_FUNCTION if revision < 3 => link_power_allow(ops, at, word / 1024 % 2 == 1),
-        _ => at,
+        PORT_CAPABILITY => tx_port_cap(list),
+        PORT_CONFIGURATION => tx_port_cfg_res(list),
+        PORT_CONFIGURATION_RESPONSE => tx_cap_vld(list),
+        U2_INACTIVITY_TIMEOUT => u2_timer(list, word / 512 % 256),
+        SET_LINK_FUNCTION if revision < 3 => link_power_allow(list, word / 1024 % 2 == 1),
+        _ => {}
     }
 }
 
 // A warm reset: the link is held down for 16 cycles.
-pub fn warm_status(ops: &mut [u32], at: usize, ep0: u32, warm: bool, effect: LinkEffect) -> Acted
-    requires { at + records 86 ≤ length ops.old }
-    ensures effect { result.effect ≡ warmed warm effect }
-    ensures list { Wrote ops.old at (warmed_ops warm ep0) result.end ops.new }
+#[tactic(auto, using(regs_device::specs::DeviceLaws::bus_reset_length))]
+pub fn warm_status(list: &mut OpList<'_>, ep0: u32, warm: bool, effect: LinkEffect) -> LinkEffect
+    requires { Room 86 list.old }
+    ensures effect { result ≡ warmed warm effect }
+    ensures list { Adds list.old (warmed_ops warm ep0) list.new }
 {
     if !warm {
-        return Acted { effect, end: at };
+        return effect;
     }
-    let a = bus_reset(ops, at, ep0);
-    let b = go_disabled(ops, a, true);
-    let c = delay_cycles(ops, b, 16);
-    Acted {
-        effect: link_reset(effect),
-        end: go_disabled(ops, c, false),
-    }
+    bus_reset(list, ep0);
+    go_disabled(list, true);
+    delay_cycles(list, 16);
+    go_disabled(list, false);
+    link_reset(effect)
 }

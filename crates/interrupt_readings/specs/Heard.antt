@@ -24,7 +24,7 @@ flagged f = record { next = Some awaiting.LinkStatus; flags = f; link_state = no
 
 -- and so is the link's state
 abbrev pub seeing : Awaited → LinkState → Awaited
-seeing a l = record { next = a.next; flags = a.flags; link_state = l; endpoint = a.endpoint; packets = a.packets }
+seeing a l = record a { link_state = l }
 
 -- a change of the link's state, and what follows
 abbrev pub from_change : ℕ → Awaited → LinkState → LinkEffect → List Op → Heard LinkEffect

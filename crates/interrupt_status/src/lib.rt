@@ -1,8 +1,8 @@
 // The transfer status, by the slot that it is about (reference: `transfer_irq` of device.rs).
 #![tactic(auto)]
 
-ghost use Rattle.std.specs.Prelude.{◌+◌, ◌≤◌, Some, length};
-ghost use Rattle.ops.specs.Ops.{records, list_numbers};
+ghost use Rattle.std.specs.Prelude.{Some};
+ghost use Rattle.ops.specs.Lists.{Room};
 ghost use Rattle.state.specs.declared.Awaiting.TheVariants as awaiting;
 ghost use Rattle.interrupt_asks.specs.Turns.{Hears, Takes};
 ghost use Rattle.interrupt_transfer.specs.Pieces.{status_pieces};
@@ -13,6 +13,7 @@ use control_report::{setup_flag, status_stage};
 use interrupt_asks::{Sight, Turn, ask};
 use interrupt_endpoint::endpoint_turn;
 use interrupt_transfer::{TransferEffect, complete_pieces};
+use ops::OpList;
 use regs_control::status_others;
 use state::fresh::nothing_awaited;
 use state::refusals::refuse_if;
@@ -21,39 +22,36 @@ use state::{Awaiting, Reading, Refusal, TransferStatus};
 // A status stage goes before a SETUP that is flagged beside it.
 #[tactic(auto, unfolding(interrupt_transfer::specs::Pieces::status_pieces))]
 fn status_turn(
-    ops: &mut [u32],
-    at: usize,
+    list: &mut OpList<'_>,
     sight: Sight,
     effect: TransferEffect,
     status: TransferStatus,
 ) -> Turn<TransferEffect>
-    requires { at + records 7 ≤ length ops.old }
-    ensures { Hears ops.old at (status_pieces sight effect status) result ops.new }
+    requires { Room 7 list.old }
+    ensures { Hears list.old (status_pieces sight effect status) result list.new }
 {
     if status.udif_status {
-        let end = status_stage(ops, at, effect.address);
+        status_stage(list, effect.address);
         return Turn {
             effect: TransferEffect {
                 address: None,
                 ..complete_pieces(1, effect)
             },
             awaited: nothing_awaited(),
-            end,
         };
     }
     if status.udif_setup {
+        setup_flag(list);
         return Turn {
             effect,
             awaited: ask(sight.awaited, Some(Awaiting::SetupBytes)),
-            end: setup_flag(ops, at),
         };
     }
     if status.uif_transfer {
-        return endpoint_turn(ops, at, sight, effect, status.ep_id, status.ep_dir);
+        return endpoint_turn(list, sight, effect, status);
     }
-    let end = status_others(
-        ops,
-        at,
+    status_others(
+        list,
         status.uif_itp,
         status.uif_rx_ping,
         status.uif_fifo_txov,
@@ -62,23 +60,22 @@ fn status_turn(
     Turn {
         effect,
         awaited: nothing_awaited(),
-        end,
     }
 }
 
 #[tactic(auto, unfolding(interrupt_followers::specs::Pieces::heard_pieces))]
 pub fn on_transfer_status(
-    ops: &mut [u32],
+    list: &mut OpList<'_>,
     sight: Sight,
     effect: TransferEffect,
     reading: Reading,
 ) -> Result<Turn<TransferEffect>, Refusal>
-    requires { list_numbers ≤ length ops.old }
-    ensures { Takes ops.old (reading_own (Some awaiting.TransferStatus) reading) (pieces_heard sight effect (Some awaiting.TransferStatus) reading) result ops.new }
+    requires { Room 128 list.old }
+    ensures { Takes list.old (reading_own (Some awaiting.TransferStatus) reading) (pieces_heard sight effect (Some awaiting.TransferStatus) reading) result list.new }
 {
     let Reading::TransferStatus(status) = reading else {
         return Err(Refusal::OutOfTurn);
     };
     refuse_if(15 < status.ep_id, Refusal::OutOfRange)?;
-    Ok(status_turn(ops, 0, sight, effect, status))
+    Ok(status_turn(list, sight, effect, status))
 }

@@ -28,10 +28,10 @@ asking s a ops = record { state = s; awaited = a; ops = ops }
 
 -- of OUT the packets of the chain are read, and then the last one's length
 abbrev pub chain_asked : Awaited → ℕ → Awaited
-chain_asked a e = record { next = Some awaiting.ChainPackets; flags = a.flags; link_state = a.link_state; endpoint = e; packets = a.packets }
+chain_asked a e = record a { next = Some awaiting.ChainPackets; endpoint = e }
 
 abbrev pub last_asked : Awaited → ℕ → Awaited
-last_asked a p = record { next = Some awaiting.LastLength; flags = a.flags; link_state = a.link_state; endpoint = a.endpoint; packets = p }
+last_asked a p = record a { next = Some awaiting.LastLength; packets = p }
 
 abbrev pub ep0_reading : Bool → Awaiting
 ep0_reading incoming = cond incoming awaiting.Ep0Sequence awaiting.Ep0Length

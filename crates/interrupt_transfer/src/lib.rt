@@ -2,12 +2,13 @@
 // device.rs).
 #![tactic(auto)]
 
-ghost use Rattle.std.specs.Prelude.{◌≡◌, ◌+◌, ◌≤◌, length};
-ghost use Rattle.ops.specs.Ops.{records};
+ghost use Rattle.std.specs.Prelude.{◌≡◌};
+ghost use Rattle.ops.specs.Lists.{Room};
 ghost use Rattle.interrupt_asks.specs.Turns.{Hears};
 ghost use Rattle.interrupt_transfer.specs.Pieces.{completed_pieces, report_pieces};
 
 use interrupt_asks::{Sight, Turn};
+use ops::OpList;
 use regs_endpoint::chain_ack;
 use state::fresh::nothing_awaited;
 use state::{EndpointAddress, Setup, Slot};
@@ -40,20 +41,18 @@ pub fn complete_pieces(i: usize, effect: TransferEffect) -> TransferEffect
 
 // The end of a chain: its flag is acknowledged, then the transfer goes on or is done.
 pub fn report_pieces(
-    ops: &mut [u32],
-    at: usize,
+    list: &mut OpList<'_>,
     sight: Sight,
     effect: TransferEffect,
     endpoint: EndpointAddress,
     report: Report,
 ) -> Turn<TransferEffect>
-    requires { at + records 7 ≤ length ops.old }
-    ensures { Hears ops.old at (report_pieces sight effect endpoint.index endpoint.incoming report.packets report.last) result ops.new }
+    requires { Room 7 list.old }
+    ensures { Hears list.old (report_pieces sight effect endpoint.index endpoint.incoming report.packets report.last) result list.new }
 {
-    let a = chain_ack(ops, at, endpoint.index as u32, endpoint.incoming);
+    chain_ack(list, endpoint.index as u32, endpoint.incoming);
     let followed = report_slot(
-        ops,
-        a,
+        list,
         sight.limit,
         sight.window,
         endpoint,
@@ -69,6 +68,5 @@ pub fn report_pieces(
             ..effect
         },
         awaited: nothing_awaited(),
-        end: followed.end,
     }
 }

@@ -3,14 +3,19 @@
 // The fields of a line are direction, endpoint, M, own buffer, address, length and flag.
 #![tactic(auto)]
 
-use tool_input::TooLong;
+use tool_input::{Reader, TooLong};
 
 fn main(rt: HostRuntime) {
     tool_print::header(&rt);
     let mut list = [0u32; 640];
-    // A line that is too long can't be read.
-    tool_input::for_each_line(&mut rt.reader(), |line| match line {
-        Ok(line) => tool_listing::line(&rt, &mut list, line),
-        Err(TooLong) => tool_listing_answers::refused(&rt, 0),
-    });
+    let mut source = rt.reader();
+    let mut reader = Reader::new();
+    for _ in 0..u64::MAX {
+        match reader.next_line(&mut source) {
+            Some(Ok(line)) => tool_listing::line(&rt, &mut list, line),
+            // A line that is too long can't be read.
+            Some(Err(TooLong)) => tool_listing_answers::refused(&rt, 0),
+            None => return,
+        }
+    }
 }

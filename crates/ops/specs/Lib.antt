@@ -5,5 +5,7 @@ pub mod Stores
 pub mod StoresLaws
 pub mod Wrote
 pub mod WroteLaws
+pub mod Lists
 pub mod Sequence
 pub mod SequenceLaws
+pub mod ListsLaws

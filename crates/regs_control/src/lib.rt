@@ -1,31 +1,29 @@
 // The registers of endpoint 0, the transfer flags and the address.
 #![tactic(auto)]
 
-ghost use Rattle.std.specs.Prelude.{◌+◌, ◌≤◌, length};
 ghost use Rattle.ops.specs.Numbers.{value_number};
-ghost use Rattle.ops.specs.Ops.{records};
-ghost use Rattle.ops.specs.Wrote.{Wrote};
+ghost use Rattle.ops.specs.Lists.{Room, Adds};
 ghost use Rattle.regs_control.specs.Control.{ep0_rx_ready_ops, ep0_tx_ready_ops, ep0_stall_ops, ep0_tx_clear_ops, ep0_rx_clear_ops, ep0_tx_answer_ops, ep0_rx_answer_ops, status_ack_ops, status_others_ops, address_ops};
 
 use ops::Field::{self, *};
 use ops::Kind::*;
 use ops::Register::*;
-use ops::Value;
+use ops::{OpList, Value};
 
-pub fn ep0_rx_ready(ops: &mut [u32], at: usize) -> usize
-    requires { at + records 2 ≤ length ops.old }
-    ensures { Wrote ops.old at ep0_rx_ready_ops result ops.new }
+pub fn ep0_rx_ready(list: &mut OpList<'_>)
+    requires { Room 2 list.old }
+    ensures { Adds list.old ep0_rx_ready_ops list.new }
 {
     let rows = [
         (Write, Uep0RxCtrl, 0, Ep0RxRes, Value::Ack as u32),
         (And, Uep0RxCtrl, 0, Ep0RxErdy, 1),
     ];
-    ops::append(ops, at, &rows)
+    list.append(&rows);
 }
 
-pub fn ep0_tx_ready(ops: &mut [u32], at: usize, seq: u32, len: u32) -> usize
-    requires { at + records 4 ≤ length ops.old }
-    ensures { Wrote ops.old at (ep0_tx_ready_ops seq len) result ops.new }
+pub fn ep0_tx_ready(list: &mut OpList<'_>, seq: u32, len: u32)
+    requires { Room 4 list.old }
+    ensures { Adds list.old (ep0_tx_ready_ops seq len) list.new }
 {
     let rows = [
         (Write, Uep0TxCtrl, 0, Ep0TxRes, Value::Dph as u32),
@@ -33,70 +31,63 @@ pub fn ep0_tx_ready(ops: &mut [u32], at: usize, seq: u32, len: u32) -> usize
         (And, Uep0TxCtrl, 0, Ep0TxLen, len),
         (Modify, Uep0TxCtrl, 0, Ep0TxErdy, 1),
     ];
-    ops::append(ops, at, &rows)
+    list.append(&rows);
 }
 
-pub fn ep0_stall(ops: &mut [u32], at: usize) -> usize
-    requires { at + records 3 ≤ length ops.old }
-    ensures { Wrote ops.old at ep0_stall_ops result ops.new }
+pub fn ep0_stall(list: &mut OpList<'_>)
+    requires { Room 3 list.old }
+    ensures { Adds list.old ep0_stall_ops list.new }
 {
     let rows = [
         (Write, Uep0TxCtrl, 0, Ep0TxRes, Value::Stall as u32),
         (Write, Uep0RxCtrl, 0, Ep0RxRes, Value::Stall as u32),
         (And, Uep0RxCtrl, 0, Ep0RxErdy, 1),
     ];
-    ops::append(ops, at, &rows)
+    list.append(&rows);
 }
 
-pub fn ep0_tx_clear(ops: &mut [u32], at: usize) -> usize
-    requires { at + records 1 ≤ length ops.old }
-    ensures { Wrote ops.old at ep0_tx_clear_ops result ops.new }
+pub fn ep0_tx_clear(list: &mut OpList<'_>)
+    requires { Room 1 list.old }
+    ensures { Adds list.old ep0_tx_clear_ops list.new }
 {
-    ops::append(ops, at, &[(Write, Uep0TxCtrl, 0, All, 0)])
+    list.append(&[(Write, Uep0TxCtrl, 0, All, 0)]);
 }
 
-pub fn ep0_rx_clear(ops: &mut [u32], at: usize) -> usize
-    requires { at + records 1 ≤ length ops.old }
-    ensures { Wrote ops.old at ep0_rx_clear_ops result ops.new }
+pub fn ep0_rx_clear(list: &mut OpList<'_>)
+    requires { Room 1 list.old }
+    ensures { Adds list.old ep0_rx_clear_ops list.new }
 {
-    ops::append(ops, at, &[(Write, Uep0RxCtrl, 0, All, 0)])
+    list.append(&[(Write, Uep0RxCtrl, 0, All, 0)]);
 }
 
 // What EP0 IN answers: DPH or NRDY.
-pub fn ep0_tx_answer(ops: &mut [u32], at: usize, answer: Value) -> usize
-    requires { at + records 1 ≤ length ops.old }
-    ensures { Wrote ops.old at (ep0_tx_answer_ops (value_number answer)) result ops.new }
+pub fn ep0_tx_answer(list: &mut OpList<'_>, answer: Value)
+    requires { Room 1 list.old }
+    ensures { Adds list.old (ep0_tx_answer_ops (value_number answer)) list.new }
 {
-    ops::append(ops, at, &[(Write, Uep0TxCtrl, 0, Ep0TxRes, answer as u32)])
+    list.append(&[(Write, Uep0TxCtrl, 0, Ep0TxRes, answer as u32)]);
 }
 
 // What EP0 OUT answers: NRDY.
-pub fn ep0_rx_answer(ops: &mut [u32], at: usize, answer: Value) -> usize
-    requires { at + records 1 ≤ length ops.old }
-    ensures { Wrote ops.old at (ep0_rx_answer_ops (value_number answer)) result ops.new }
+pub fn ep0_rx_answer(list: &mut OpList<'_>, answer: Value)
+    requires { Room 1 list.old }
+    ensures { Adds list.old (ep0_rx_answer_ops (value_number answer)) list.new }
 {
-    ops::append(ops, at, &[(Write, Uep0RxCtrl, 0, Ep0RxRes, answer as u32)])
+    list.append(&[(Write, Uep0RxCtrl, 0, Ep0RxRes, answer as u32)]);
 }
 
 // Acknowledges `UdifSetup` or `UdifStatus`.
-pub fn status_ack(ops: &mut [u32], at: usize, flag: Field) -> usize
-    requires { at + records 1 ≤ length ops.old }
-    ensures { Wrote ops.old at (status_ack_ops flag) result ops.new }
+pub fn status_ack(list: &mut OpList<'_>, flag: Field)
+    requires { Room 1 list.old }
+    ensures { Adds list.old (status_ack_ops flag) list.new }
 {
-    ops::append(ops, at, &[(Write, Status, 0, flag, 1)])
+    list.append(&[(Write, Status, 0, flag, 1)]);
 }
 
 // Acknowledges those of the other flags that were read as set.
-pub fn status_others(
-    ops: &mut [u32],
-    at: usize,
-    itp: bool,
-    rx_ping: bool,
-    txov: bool,
-    rxov: bool,
-) -> usize
-    requires { at + records 4 ≤ length ops.old }
-    ensures { Wrote ops.old at (status_others_ops itp rx_ping txov rxov) result ops.new }
+pub fn status_others(list: &mut OpList<'_>, itp: bool, rx_ping: bool, txov: bool, rxov: bool)
+    requires { Room 4 list.old }
+    ensures { Adds list.old (status_others_ops itp rx_ping txov rxov) list.new }
 {
     let rows = [
         (Write, Status, 0, UifItp, itp as u32),
@@ -104,12 +95,12 @@ pub fn status_others(
         (And, Status, 0, UifFifoTxov, txov as u32),
         (And, Status, 0, UifFifoRxov, rxov as u32),
     ];
-    ops::append(ops, at, &rows)
+    list.append(&rows);
 }
 
-pub fn set_address(ops: &mut [u32], at: usize, address: u32) -> usize
-    requires { at + records 1 ≤ length ops.old }
-    ensures { Wrote ops.old at (address_ops address) result ops.new }
+pub fn set_address(list: &mut OpList<'_>, address: u32)
+    requires { Room 1 list.old }
+    ensures { Adds list.old (address_ops address) list.new }
 {
-    ops::append(ops, at, &[(Modify, UsbssCtrl, 0, DevAddr, address)])
+    list.append(&[(Modify, UsbssCtrl, 0, DevAddr, address)]);
 }

@@ -1,23 +1,22 @@
 // The device as a whole.
 #![tactic(auto)]
 
-ghost use Rattle.std.specs.Prelude.{◌+◌, ◌≤◌, length};
-ghost use Rattle.ops.specs.Ops.{records};
 ghost use Rattle.ops.specs.Sequence.{up_to};
-ghost use Rattle.ops.specs.Wrote.{Wrote};
+ghost use Rattle.ops.specs.Lists.{Room, Adds};
 ghost use Rattle.regs_device.specs.Device.{shutdown_ops, protocol_ops, clear_both, ep0_memory_ops, protocol_reset_ops, bus_reset_ops};
 
 use ops::Field::*;
 use ops::Kind::*;
+use ops::OpList;
 use ops::Register::*;
 use regs_control::{ep0_rx_ready, ep0_tx_clear, set_address};
 use regs_endpoint::clear;
 use regs_link::link_power_allow;
 
 // Leaves the bus: the protocol and the link layer are reset, and the link is held down meanwhile.
-pub fn shutdown(ops: &mut [u32], at: usize) -> usize
-    requires { at + records 8 ≤ length ops.old }
-    ensures { Wrote ops.old at shutdown_ops result ops.new }
+pub fn shutdown(list: &mut OpList<'_>)
+    requires { Room 8 list.old }
+    ensures { Adds list.old shutdown_ops list.new }
 {
     let rows = [
         (Write, UsbssCtrl, 0, ForceRst, 1),
@@ -29,14 +28,15 @@ pub fn shutdown(ops: &mut [u32], at: usize) -> usize
         (Modify, LinkCfg, 0, LinkPhyReset, 0),
         (And, LinkCfg, 0, LinkReset, 0),
     ];
-    ops::append(ops, at, &rows)
+    list.append(&rows);
 }
 
-fn reset_protocol_layer(ops: &mut [u32], at: usize) -> usize
-    requires { at + records 17 ≤ length ops.old }
-    ensures { Wrote ops.old at protocol_ops result ops.new }
+// In two parts: the compiler makes constants of so many rows, and a loop of more.
+fn reset_protocol_layer(list: &mut OpList<'_>)
+    requires { Room 17 list.old }
+    ensures { Adds list.old protocol_ops list.new }
 {
-    let rows = [
+    let flags = [
         (Modify, UsbssCtrl, 0, ForceRst, 1),
         (Write, Status, 0, UifTransfer, 1),
         (And, Status, 0, UdifSetup, 1),
@@ -45,6 +45,8 @@ fn reset_protocol_layer(ops: &mut [u32], at: usize) -> usize
         (And, Status, 0, UifItp, 1),
         (And, Status, 0, UifFifoTxov, 1),
         (And, Status, 0, UifFifoRxov, 1),
+    ];
+    let control = [
         (Write, UsbssCtrl, 0, UieTransfer, 1),
         (And, UsbssCtrl, 0, UdieSetup, 1),
         (And, UsbssCtrl, 0, UdieStatus, 1),
@@ -55,26 +57,25 @@ fn reset_protocol_layer(ops: &mut [u32], at: usize) -> usize
         (Write, UepTxEn, 0, All, 0),
         (Write, UepRxEn, 0, All, 0),
     ];
-    ops::append(ops, at, &rows)
+    list.append(&flags);
+    list.append(&control);
 }
 
 // Both directions of the endpoints 1 to 7, IN first.
-#[tactic(auto, using(ops::specs::WroteLaws::wrote_length, ops::specs::SequenceLaws::up_to_start, crate::specs::DeviceLaws::clear_both_length))]
-fn clear_all(ops: &mut [u32], at: usize) -> usize
-    requires { at + records 56 ≤ length ops.old }
-    ensures { Wrote ops.old at (up_to clear_both 7) result ops.new }
+#[tactic(auto, using(ops::specs::ListsLaws::up_to_start, crate::specs::DeviceLaws::clear_both_length))]
+fn clear_all(list: &mut OpList<'_>)
+    requires { Room 56 list.old }
+    ensures { Adds list.old (up_to clear_both 7) list.new }
 {
-    let mut a = at;
     for index in 1..=7 {
-        let b = clear(ops, a, index, true);
-        a = clear(ops, b, index, false);
+        clear(list, index, true);
+        clear(list, index, false);
     }
-    a
 }
 
-fn set_ep0_memory(ops: &mut [u32], at: usize, ep0: u32) -> usize
-    requires { at + records 4 ≤ length ops.old }
-    ensures { Wrote ops.old at (ep0_memory_ops ep0) result ops.new }
+fn set_ep0_memory(list: &mut OpList<'_>, ep0: u32)
+    requires { Room 4 list.old }
+    ensures { Adds list.old (ep0_memory_ops ep0) list.new }
 {
     let rows = [
         (Write, Uep0TxDma, 0, All, ep0),
@@ -82,29 +83,29 @@ fn set_ep0_memory(ops: &mut [u32], at: usize, ep0: u32) -> usize
         (Write, Uep0TxDmaOfs, 0, All, 0),
         (Write, Uep0RxDmaOfs, 0, All, 0),
     ];
-    ops::append(ops, at, &rows)
+    list.append(&rows);
 }
 
 // Everything above the link starts over: flags, endpoints, address. EP0 has its memory at `ep0` and waits for a SETUP.
 #[tactic(auto, using(crate::specs::DeviceLaws::clear_both_length))]
-pub fn protocol_reset(ops: &mut [u32], at: usize, ep0: u32) -> usize
-    requires { at + records 81 ≤ length ops.old }
-    ensures { Wrote ops.old at (protocol_reset_ops ep0) result ops.new }
+pub fn protocol_reset(list: &mut OpList<'_>, ep0: u32)
+    requires { Room 81 list.old }
+    ensures { Adds list.old (protocol_reset_ops ep0) list.new }
 {
-    let a = reset_protocol_layer(ops, at);
-    let b = clear_all(ops, a);
-    let c = set_ep0_memory(ops, b, ep0);
-    let d = ep0_tx_clear(ops, c);
-    let e = ep0_rx_ready(ops, d);
-    set_address(ops, e, 0)
+    reset_protocol_layer(list);
+    clear_all(list);
+    set_ep0_memory(list, ep0);
+    ep0_tx_clear(list);
+    ep0_rx_ready(list);
+    set_address(list, 0);
 }
 
 // The registers of a bus reset: the host's requests to enter U1 and U2 are refused behind it.
-#[tactic(auto, using(ops::specs::WroteLaws::wrote_length, crate::specs::DeviceLaws::protocol_reset_length))]
-pub fn bus_reset(ops: &mut [u32], at: usize, ep0: u32) -> usize
-    requires { at + records 83 ≤ length ops.old }
-    ensures { Wrote ops.old at (bus_reset_ops ep0) result ops.new }
+#[tactic(auto, using(crate::specs::DeviceLaws::protocol_reset_length))]
+pub fn bus_reset(list: &mut OpList<'_>, ep0: u32)
+    requires { Room 83 list.old }
+    ensures { Adds list.old (bus_reset_ops ep0) list.new }
 {
-    let a = protocol_reset(ops, at, ep0);
-    link_power_allow(ops, a, false)
+    protocol_reset(list, ep0);
+    link_power_allow(list, false);
 }

@@ -83,51 +83,19 @@ with_awaited s a = state_of s.endpoints (power_of s) (link_of s) (control_of s) 
 
 -- no SETUP waits
 abbrev pub unasked : State → State
-unasked s =
-    with_control s
-    (record {
-      setup = None;
-      generation = s.control_generation;
-      last = s.in_last;
-      sequence = s.tx_seq;
-      address = s.address;
-    })
+unasked s = record s { setup = None }
 
 -- a SETUP waits with its bytes
 abbrev pub with_setup : State → List ℕ → State
-with_setup s bytes =
-    with_control s
-    (record {
-      setup = Some bytes;
-      generation = s.control_generation;
-      last = s.in_last;
-      sequence = s.tx_seq;
-      address = s.address;
-    })
+with_setup s bytes = record s { setup = Some bytes }
 
 -- the sequence that an EP0 IN report gave
 abbrev pub with_sequence : State → ℕ → State
-with_sequence s q =
-    with_control s
-    (record {
-      setup = s.setup;
-      generation = s.control_generation;
-      last = s.in_last;
-      sequence = q;
-      address = s.address;
-    })
+with_sequence s q = record s { tx_seq = q }
 
 -- an IN stage: whether its packet is the last, and the address that waits for the status stage, if one does
 abbrev pub with_stage : State → Bool → Option ℕ → State
-with_stage s last address =
-    with_control s
-    (record {
-      setup = s.setup;
-      generation = s.control_generation;
-      last = last;
-      sequence = s.tx_seq;
-      address = address;
-    })
+with_stage s last address = record s { in_last = last; address = address }
 
 -- the device off; revision and EP0's memory stay
 abbrev pub unpowered : State → State

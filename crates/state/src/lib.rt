@@ -238,7 +238,7 @@ pub struct EndpointRequest {
     pub mult: u8,
 }
 
-// Why a call is refused. As a `u32` it is its number.
+// Why a call is refused. `u32::from` gives its number.
 #[derive(Clone, Copy, PartialEq, Eq)]
 pub enum Refusal {
     MemoryOutsideRam,

@@ -47,7 +47,7 @@ pub fn awaiting_number(next: Option<Awaiting>) -> u32
 pub fn is_awaiting(next: Option<Awaiting>) -> bool
     ensures { result ≡ awaitingb next }
 {
-    awaiting_number(next) != 0
+    next.is_some()
 }
 
 // Whether a reading of a data endpoint's chain is awaited.

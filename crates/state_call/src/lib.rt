@@ -3,11 +3,13 @@
 
 ghost use Rattle.std.specs.Prelude.{◌≡◌, []};
 ghost use Rattle.state.specs.Refusals.{first_refusal};
+ghost use Rattle.state_sound.specs.Sound.{soundb};
 ghost use Rattle.state_call.specs.Turn.{turn_of, admitted_of};
 
 use state::readings::is_awaiting;
 use state::refusals::refuse_if;
-use state::{Awaited, Refusal, State, Wakes};
+use state::{Awaited, Events, Refusal, State, Wakes};
+use state_sound::sound;
 
 // What a call leaves and says.
 #[derive(Clone, Copy)]
@@ -26,18 +28,57 @@ pub struct Listed<A> {
     pub wakes: Wakes,
 }
 
-// 26 and 24, which every call asks before its further tests: of what `sound` says, and of the reading awaited.
-pub fn turn_of(good: bool, awaited: Awaited) -> Result<(), Refusal>
-    ensures { result ≡ first_refusal (turn_of good awaited.next []) }
-{
-    refuse_if(!good, Refusal::Unsound)?;
-    refuse_if(is_awaiting(awaited.next), Refusal::OutOfTurn)
+// What every call looks at before its further tests: what `sound` says, and the reading awaited.
+#[derive(Clone, Copy)]
+pub struct Entry {
+    pub good: bool,
+    pub awaited: Awaited,
 }
 
-// The same of a call that is lent a list of so many numbers, with 10 before them.
-pub fn admit(room: usize, good: bool, awaited: Awaited) -> Result<(), Refusal>
-    ensures { result ≡ first_refusal (admitted_of room good awaited.next []) }
-{
-    refuse_if(room < ops::LIST_NUMBERS, Refusal::ListTooShort)?;
-    turn_of(good, awaited)
+impl Entry {
+    // Inlined, so that it costs no call.
+    #[inline(always)]
+    pub fn new(state: &State, events: Events) -> Entry
+        ensures { result ≡ record { good = soundb state.now events; awaited = state.now.awaited } }
+    {
+        Entry {
+            good: sound(*state, events),
+            awaited: state.awaited,
+        }
+    }
+
+    // 26 and 24.
+    pub fn admit(self) -> Result<(), Refusal>
+        ensures { result ≡ first_refusal (turn_of self.good self.awaited.next []) }
+    {
+        refuse_if(!self.good, Refusal::Unsound)?;
+        refuse_if(is_awaiting(self.awaited.next), Refusal::OutOfTurn)
+    }
+}
+
+// The same of a call that is lent a list, which has room for so many numbers.
+#[derive(Clone, Copy)]
+pub struct ListEntry {
+    pub room: usize,
+    pub entry: Entry,
+}
+
+impl ListEntry {
+    #[inline(always)]
+    pub fn new(room: usize, state: &State, events: Events) -> ListEntry
+        ensures { result ≡ record { room = room; entry = record { good = soundb state.now events; awaited = state.now.awaited } } }
+    {
+        ListEntry {
+            room,
+            entry: Entry::new(state, events),
+        }
+    }
+
+    // 10, and then 26 and 24.
+    pub fn admit(self) -> Result<(), Refusal>
+        ensures { result ≡ first_refusal (admitted_of self.room self.entry.good self.entry.awaited.next []) }
+    {
+        refuse_if(self.room < ops::LIST_NUMBERS, Refusal::ListTooShort)?;
+        self.entry.admit()
+    }
 }

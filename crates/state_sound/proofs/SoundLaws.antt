@@ -214,6 +214,10 @@ sound_bad_own s e h = rw (h, and-false (slotsb s 16)) at (sound_parts s e)
 pub sound_all : (s : State) (e : Events) → slotsb s 16 ≡ true → ownb s e ≡ true → true ≡ soundb s e
 sound_all s e h o = rw (h, o) at (sound_parts s e)
 
+-- sound where the rest is: the slots decide
+pub sound_slots : (s : State) (e : Events) → ownb s e ≡ true → slotsb s 16 ≡ soundb s e
+sound_slots s e h = rw (h, and-true (slotsb s 16)) at (sound_parts s e)
+
 pub driver_parts : (d : Driver) → (allocationsb d 16 && memoryb d.memory d.capacity d.used) ≡ driver_soundb d
 unfolding driver_soundb allocationsb configb memoryb
 driver_parts d =

@@ -27,10 +27,7 @@ pub fn is_aligned(address: u32) -> bool
 pub fn is_multiple(n: u32, m: u32) -> bool
     ensures { result ≡ multiple n m }
 {
-    if 0 < m {
-        return n % m == 0;
-    }
-    false
+    0 < m && n % m == 0
 }
 
 // A buffer of whole packets of m bytes, one at least. No division where it holds one packet, or one burst.
@@ -45,18 +42,14 @@ fn whole_packets(size: u32, m: u16, burst: u8) -> bool
     if size == most {
         return 0 < n;
     }
-    if 0 < size {
-        return is_multiple(size, n);
-    }
-    false
+    0 < size && is_multiple(size, n)
 }
 
 // A configuration of slot i.
 pub fn config_fits(i: usize, config: EndpointConfig) -> bool
     ensures { result ≡ configb i (Some config) }
 {
-    let number = slot_number(config.endpoint);
-    if number != i {
+    if slot_number(config.endpoint) != i {
         return false;
     }
     let m = config.max_packet_size;
@@ -104,8 +97,7 @@ fn slot_sound(powered: bool, i: usize, x: Slot) -> bool
         }
         return (idle & !x.enabled) & (x.transfer.progress <= x.transfer.length);
     };
-    let fits = config_fits(i, config);
-    if !fits {
+    if !config_fits(i, config) {
         return false;
     }
     if i < 2 {
@@ -141,10 +133,7 @@ fn awaited_sound(powered: bool, awaited: Awaited) -> bool
 fn address_fits(address: Option<u8>) -> bool
     ensures { result ≡ address_fits address }
 {
-    match address {
-        Some(address) => address <= 127,
-        None => true,
-    }
+    address.is_none_or(|address| address <= 127)
 }
 
 // The state apart from its slots.
@@ -162,15 +151,10 @@ fn own_sound(state: State, events: Events) -> bool
 pub fn sound(state: State, events: Events) -> bool
     ensures { result ≡ soundb state events }
 {
-    let own = own_sound(state, events);
-    if !own {
-        return false;
-    }
-    for i in 0..16 {
-        let good = slot_sound(state.powered, i, state.endpoints[i]);
-        if !good {
-            return false;
-        }
-    }
-    true
+    own_sound(state, events)
+        && state
+            .endpoints
+            .iter()
+            .enumerate()
+            .all(|(i, slot)| slot_sound(state.powered, i, *slot))
 }

@@ -1,6 +1,9 @@
 // The line that ends what is printed of a call.
 #![tactic(auto)]
 
+ghost use Rattle.std.specs.Prelude.{◌≡◌};
+ghost use Rattle.tool_answers.specs.Answers.{answer_numbers};
+
 use state::{Refusal, Wakes};
 use state_slots::waking::no_wakes;
 use tool_print::Line;
@@ -13,23 +16,16 @@ pub fn answer(rt: &impl Print, number: u32, value: u32, wakes: Wakes) {
     line.cell(wakes.bus as u32);
     line.cell(wakes.slots as u32);
     line.text(b"\n");
-    line.write(rt);
+    let _ = rt.write_all(line.as_bytes());
 }
 
-// A value with whom the call wakes, or a refusal.
-pub fn told(rt: &impl Print, said: Result<u32, Refusal>, wakes: Wakes) {
+// The number and the value that are printed of an answer.
+pub fn numbers(said: Result<u32, Refusal>) -> (u32, u32)
+    ensures { result ≡ answer_numbers said }
+{
     match said {
-        Ok(value) => answer(rt, 0, value, wakes),
-        Err(refusal) => refused(rt, refusal),
-    }
-}
-
-// The same of a take; `None`: it has to wait.
-pub fn taken(rt: &impl Print, said: Result<Option<u32>, Refusal>, wakes: Wakes) {
-    match said {
-        Ok(Some(bytes)) => answer(rt, 0, bytes, wakes),
-        Ok(None) => busy(rt),
-        Err(refusal) => refused(rt, refusal),
+        Ok(value) => (0, value),
+        Err(refusal) => (refusal.into(), 0),
     }
 }
 
@@ -54,7 +50,7 @@ pub fn more(rt: &impl Print, wakes: Wakes) {
     line.cell(wakes.bus as u32);
     line.cell(wakes.slots as u32);
     line.text(b"\n");
-    line.write(rt);
+    let _ = rt.write_all(line.as_bytes());
 }
 
 // An allocation that is refused: the Rust has one error for its five numbers.

@@ -11,7 +11,7 @@ pub fn awaits(rt: &impl Print, next: Option<Awaiting>) {
     line.text(b"awaits\t");
     line.text(name(next));
     line.text(b"\n");
-    line.write(rt);
+    let _ = rt.write_all(line.as_bytes());
 }
 
 // The link's status is one reading, at whichever place it is asked.

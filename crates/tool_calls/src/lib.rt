@@ -46,6 +46,6 @@ pub fn call(rt: &impl Print, list: &mut [u32; 640], world: World, line: &[u8]) -
             world
         }
         Word::Interrupt => tool_calls_interrupt::begin(rt, list, world),
-        _ => tool_calls_interrupt::answer(rt, list, world, word, line),
+        _ => tool_calls_interrupt::answer(rt, list, world, tool_readings::reading(word, line)),
     }
 }

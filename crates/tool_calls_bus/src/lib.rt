@@ -1,38 +1,52 @@
 // Events, and a bus reset by itself.
 #![tactic(auto)]
 
+ghost use Rattle.std.specs.Prelude.{◌≡◌, cond};
+ghost use Rattle.tool_arguments.specs.Arguments.{byte_at};
+ghost use Rattle.bus_events.specs.Poll.{poll_call};
+ghost use Rattle.bus_events.specs.Raise.{raise_call};
+ghost use Rattle.bus_reset.specs.Reset.{bus_reset_state};
+
+use ops::OpList;
 use state_events::Event;
 use tool_arguments::byte;
 use world::World;
 
-pub fn raise(rt: &impl Print, world: World, line: &[u8]) -> World {
+pub fn raise(rt: &impl Print, world: World, line: &[u8]) -> World
+    ensures { result ≡ record world { events = (raise_call world.state world.events (byte_at line.now 0)).events } }
+{
     let raised = bus_events::raise(world.state, world.events, byte(line, 0));
-    tool_answers::told(rt, raised.answer.map(|()| 0), raised.wakes);
+    let (number, value) = tool_answers::numbers(raised.answer.map(|()| 0));
+    tool_answers::answer(rt, number, value, raised.wakes);
     world.with_events(raised.events)
 }
 
-pub fn poll(rt: &impl Print, world: World) -> World {
+pub fn poll(rt: &impl Print, world: World) -> World
+    ensures { result ≡ record world { events = (poll_call world.state world.events).events } }
+{
     let polled = bus_events::poll(world.state, world.events);
-    tool_answers::told(rt, polled.answer.map(number), polled.wakes);
+    let (number, value) = tool_answers::numbers(polled.answer.map(event_number));
+    tool_answers::answer(rt, number, value, polled.wakes);
     world.with_events(polled.events)
 }
 
 // An event's bit, or 0.
-fn number(event: Option<Event>) -> u32 {
-    match event {
-        Some(event) => u8::from(event) as u32,
-        None => 0,
-    }
+fn event_number(event: Option<Event>) -> u32 {
+    event.map_or(0, |event| u8::from(event) as u32)
 }
 
 // Without power there is no reset.
-pub fn reset(rt: &impl Print, list: &mut [u32; 640], world: World) -> World {
+pub fn reset(rt: &impl Print, list: &mut [u32; 640], world: World) -> World
+    ensures { result ≡ cond world.state.powered (record world { state = bus_reset_state world.state }) world }
+{
     if !world.state.powered {
         tool_answers::unfit(rt);
         return world;
     }
-    let after = bus_reset::bus_reset(list, 0, world.state);
-    tool_print::operations(rt, list, after.end);
+    let mut ops = OpList::new(list);
+    let state = bus_reset::bus_reset(&mut ops, world.state);
+    let end = ops.end;
+    tool_print::operations(rt, list, end);
     tool_answers::done(rt, 0);
-    world.with_state(after.state)
+    world.with_state(state)
 }

@@ -1,10 +1,16 @@
 // What an allocation is asked with.
+ghost use Rattle.std.specs.Prelude.{◌≡◌, cond, leb, Some, None};
+ghost use Rattle.tool_scripts.specs.Script.{number_at};
+ghost use Rattle.tool_calls_driver.specs.Request.{kind_of, address_asked, request_of};
+
 use state::{EndpointAddress, EndpointRequest, EndpointType};
 use tool_arguments::{byte, half};
 use tool_scripts::{flag, number};
 
 // The request of a line, if its numbers fit.
-pub fn read(line: &[u8]) -> Option<EndpointRequest> {
+pub fn read(line: &[u8]) -> Option<EndpointRequest>
+    ensures { result ≡ request_of line.now }
+{
     let bytes = (number(line, 6) < 256) & (number(line, 7) < 256) & (number(line, 9) < 256);
     let halves = (number(line, 5) < 65536) & (number(line, 8) < 65536);
     if !(bytes & halves) {
@@ -22,7 +28,9 @@ pub fn read(line: &[u8]) -> Option<EndpointRequest> {
 }
 
 // The address that is asked for, if one is; its number fits in either case.
-fn asked(line: &[u8]) -> Option<Option<EndpointAddress>> {
+fn asked(line: &[u8]) -> Option<Option<EndpointAddress>>
+    ensures { result ≡ cond (leb (number_at line.now 3) 15) (Some (address_asked line.now)) None }
+{
     if number(line, 3) > 15 {
         return None;
     }
@@ -33,7 +41,9 @@ fn asked(line: &[u8]) -> Option<Option<EndpointAddress>> {
     Some(flag(line, 1).then_some(address))
 }
 
-fn kind(number: u32) -> Option<EndpointType> {
+fn kind(number: u32) -> Option<EndpointType>
+    ensures { result ≡ kind_of number }
+{
     match number {
         0 => Some(EndpointType::Control),
         1 => Some(EndpointType::Isochronous),

@@ -1,24 +1,31 @@
 // An interrupt of a script, by its readings.
 #![tactic(auto)]
 
+ghost use Rattle.std.specs.Prelude.{◌≡◌};
+ghost use Rattle.interrupt_begin.specs.Begin.{interrupt_call};
+ghost use Rattle.tool_calls_interrupt.specs.Heard.{left_by, world_heard};
+
 use interrupt_asks::InterruptResult;
-use tool_words::Word;
+use state::Reading;
 use world::World;
 
-pub fn begin(rt: &impl Print, list: &mut [u32; 640], world: World) -> World {
+pub fn begin(rt: &impl Print, list: &mut [u32; 640], world: World) -> World
+    ensures { result ≡ left_by world (interrupt_call 640 world.state world.events) }
+{
     let result = interrupt_begin::interrupt(list, world.state, world.events);
     told(rt, list, world, result)
 }
 
-// A word that is no reading's, or a line whose numbers can't be read, is unfit.
+// A line that is no reading's, or whose numbers can't be read, is unfit.
 pub fn answer(
     rt: &impl Print,
     list: &mut [u32; 640],
     world: World,
-    word: Word,
-    line: &[u8],
-) -> World {
-    let Some(reading) = tool_readings::reading(word, line) else {
+    reading: Option<Reading>,
+) -> World
+    ensures { result ≡ world_heard world reading }
+{
+    let Some(reading) = reading else {
         tool_answers::unfit(rt);
         return world;
     };
@@ -26,7 +33,9 @@ pub fn answer(
     told(rt, list, world, result)
 }
 
-fn told(rt: &impl Print, list: &[u32; 640], world: World, called: InterruptResult) -> World {
+fn told(rt: &impl Print, list: &[u32; 640], world: World, called: InterruptResult) -> World
+    ensures { result ≡ record world { state = called.state; events = called.events } }
+{
     tool_print::operations(rt, list, called.end);
     match called.answer {
         Ok(None) => tool_answers::answer(rt, 0, 0, called.wakes),

@@ -1,6 +1,11 @@
 // Sends and receives: a piece begun; or taken, and the next one begun.
 #![tactic(auto)]
 
+ghost use Rattle.std.specs.Prelude.{◌≡◌, cond, nat_le};
+ghost use Rattle.tool_scripts.specs.Script.{number_at};
+ghost use Rattle.tool_moves.specs.Lines.{asked_by};
+ghost use Rattle.tool_calls_moves.specs.Moves.{slot_for, request_for, send_for, receive_for, begun_for, sent_for, received_for, taken_for, world_begun, world_next};
+
 use endpoint_answer::Move;
 use endpoint_choice::MoveRequest;
 use endpoint_parts::part;
@@ -14,22 +19,28 @@ use tool_print::Line;
 use world::World;
 
 // A piece is begun.
-pub fn begin(rt: &impl Print, list: &mut [u32; 640], world: World, line: &[u8]) -> World {
-    let Some(asked) = asked::read(line) else {
+pub fn begin(rt: &impl Print, list: &mut [u32; 640], world: World, line: &[u8]) -> World
+    ensures { result ≡ cond (nat_le (number_at line.now 4) 65536) (world_begun world (asked_by line.now)) world }
+{
+    let asked = asked::read(line);
+    if !asked.fits() {
         tool_answers::unfit(rt);
         return world;
-    };
+    }
     let result = begun(rt, list, world, asked);
     told(rt, result.answer, asked, result.wakes);
     world.with_state(result.state)
 }
 
 // A piece is taken, and the next one begun.
-pub fn next(rt: &impl Print, list: &mut [u32; 640], world: World, line: &[u8]) -> World {
-    let Some(asked) = asked::read(line) else {
+pub fn next(rt: &impl Print, list: &mut [u32; 640], world: World, line: &[u8]) -> World
+    ensures { result ≡ cond (nat_le (number_at line.now 4) 65536) (world_next world (asked_by line.now)) world }
+{
+    let asked = asked::read(line);
+    if !asked.fits() {
         tool_answers::unfit(rt);
         return world;
-    };
+    }
     let result = taken(rt, world, asked);
     let went = world.with_state(result.state);
     if let Ok(Move::More(position)) = result.answer {
@@ -40,7 +51,9 @@ pub fn next(rt: &impl Print, list: &mut [u32; 640], world: World, line: &[u8]) -
 }
 
 // The next piece is begun, which is what `more` says.
-fn go_on(rt: &impl Print, list: &mut [u32; 640], world: World, asked: Asked) -> World {
+fn go_on(rt: &impl Print, list: &mut [u32; 640], world: World, asked: Asked) -> World
+    ensures { result ≡ world_begun world asked }
+{
     let result = begun(rt, list, world, asked);
     if pieces::is_begun(result.answer) {
         tool_answers::more(rt, result.wakes);
@@ -64,7 +77,9 @@ fn told(rt: &impl Print, answer: Result<Move, Refusal>, asked: Asked, wakes: Wak
     }
 }
 
-fn begun(rt: &impl Print, list: &mut [u32; 640], world: World, asked: Asked) -> Listed<Move> {
+fn begun(rt: &impl Print, list: &mut [u32; 640], world: World, asked: Asked) -> Listed<Move>
+    ensures { result.state ≡ (begun_for world.state world.events asked).state }
+{
     if asked.endpoint.incoming {
         send(rt, list, world, asked)
     } else {
@@ -72,7 +87,10 @@ fn begun(rt: &impl Print, list: &mut [u32; 640], world: World, asked: Asked) -> 
     }
 }
 
-fn taken(rt: &impl Print, world: World, asked: Asked) -> Answered<Move> {
+fn taken(rt: &impl Print, world: World, asked: Asked) -> Answered<Move>
+    ensures answer { result.answer ≡ (taken_for world.state world.events asked).answer }
+    ensures state { result.state ≡ (taken_for world.state world.events asked).state }
+{
     if asked.endpoint.incoming {
         sent(world, asked)
     } else {
@@ -80,11 +98,15 @@ fn taken(rt: &impl Print, world: World, asked: Asked) -> Answered<Move> {
     }
 }
 
-fn slot_of(world: World, asked: Asked) -> Slot {
+fn slot_of(world: World, asked: Asked) -> Slot
+    ensures { result ≡ slot_for world.state asked }
+{
     slot_at(world.state, slot_place(asked.endpoint))
 }
 
-fn request(asked: Asked, slot: Slot) -> MoveRequest {
+fn request(asked: Asked, slot: Slot) -> MoveRequest
+    ensures { result ≡ request_for asked slot }
+{
     MoveRequest {
         single: asked.single,
         needs_zlp: asked.flag,
@@ -95,7 +117,9 @@ fn request(asked: Asked, slot: Slot) -> MoveRequest {
 }
 
 // A piece of a send is begun; printed are its copy, its records and itself.
-fn send(rt: &impl Print, list: &mut [u32; 640], world: World, asked: Asked) -> Listed<Move> {
+fn send(rt: &impl Print, list: &mut [u32; 640], world: World, asked: Asked) -> Listed<Move>
+    ensures { result.state ≡ (send_for world.state world.events asked (slot_for world.state asked)).state }
+{
     let slot = slot_of(world, asked);
     let mut bytes = [0u8; 65536];
     tool_patterns::fill(&mut bytes, asked.pattern);
@@ -119,7 +143,9 @@ fn send(rt: &impl Print, list: &mut [u32; 640], world: World, asked: Asked) -> L
 }
 
 // A piece of a receive is begun.
-fn receive(rt: &impl Print, list: &mut [u32; 640], world: World, asked: Asked) -> Listed<Move> {
+fn receive(rt: &impl Print, list: &mut [u32; 640], world: World, asked: Asked) -> Listed<Move>
+    ensures { result.state ≡ (receive_for world.state world.events asked (slot_for world.state asked)).state }
+{
     let slot = slot_of(world, asked);
     let bytes = [0u8; 65536];
     let own = [0u8; 16384];
@@ -139,7 +165,10 @@ fn receive(rt: &impl Print, list: &mut [u32; 640], world: World, asked: Asked) -
 }
 
 // A piece of a send is taken. No byte of it is asked for.
-fn sent(world: World, asked: Asked) -> Answered<Move> {
+fn sent(world: World, asked: Asked) -> Answered<Move>
+    ensures answer { result.answer ≡ (sent_for world.state world.events asked (slot_for world.state asked)).answer }
+    ensures state { result.state ≡ (sent_for world.state world.events asked (slot_for world.state asked)).state }
+{
     let slot = slot_of(world, asked);
     let bytes = [0u8; 65536];
     let own = [0u8; 16384];
@@ -154,7 +183,10 @@ fn sent(world: World, asked: Asked) -> Answered<Move> {
 }
 
 // A piece of a receive is taken; the own buffer holds the pattern, and the copy out of it is printed.
-fn received(rt: &impl Print, world: World, asked: Asked) -> Answered<Move> {
+fn received(rt: &impl Print, world: World, asked: Asked) -> Answered<Move>
+    ensures answer { result.answer ≡ (received_for world.state world.events asked (slot_for world.state asked)).answer }
+    ensures state { result.state ≡ (received_for world.state world.events asked (slot_for world.state asked)).state }
+{
     let slot = slot_of(world, asked);
     let mut bytes = [0u8; 65536];
     let mut own = [0u8; 16384];
@@ -188,6 +220,6 @@ fn piece(rt: &impl Print, answer: Result<Move, Refusal>, transfer: Transfer) {
         line.cell(transfer.length);
         line.cell(transfer.zlp as u32);
         line.text(b"\n");
-        line.write(rt);
+        let _ = rt.write_all(line.as_bytes());
     }
 }

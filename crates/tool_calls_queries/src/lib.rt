@@ -1,17 +1,25 @@
-// What can be asked of an endpoint.
+// What can be asked of an endpoint. Nothing changes by it.
 #![tactic(auto)]
+
+ghost use Rattle.std.specs.Prelude.{◌≡◌};
 
 use tool_arguments::endpoint;
 use world::World;
 
-pub fn stalled(rt: &impl Print, world: World, line: &[u8]) -> World {
+pub fn stalled(rt: &impl Print, world: World, line: &[u8]) -> World
+    ensures { result ≡ world }
+{
     let said = bus_query::is_stalled(world.state, world.events, endpoint(line));
-    tool_answers::told(rt, said.answer.map(u32::from), said.wakes);
+    let (number, value) = tool_answers::numbers(said.answer.map(u32::from));
+    tool_answers::answer(rt, number, value, said.wakes);
     world
 }
 
-pub fn enabled(rt: &impl Print, world: World, line: &[u8]) -> World {
+pub fn enabled(rt: &impl Print, world: World, line: &[u8]) -> World
+    ensures { result ≡ world }
+{
     let said = bus_query::is_enabled(world.state, world.events, endpoint(line));
-    tool_answers::told(rt, said.answer.map(u32::from), said.wakes);
+    let (number, value) = tool_answers::numbers(said.answer.map(u32::from));
+    tool_answers::answer(rt, number, value, said.wakes);
     world
 }

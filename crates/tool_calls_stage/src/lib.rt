@@ -1,19 +1,32 @@
 // Stages of endpoint 0 begun, and the answers to a request.
 #![tactic(auto)]
 
+ghost use Rattle.std.specs.Prelude.{◌≡◌};
+ghost use Rattle.tool_scripts.specs.Script.{number_at};
+ghost use Rattle.tool_arguments.specs.Arguments.{byte_at, flag_at};
+ghost use Rattle.control_out.specs.DataOut.{data_out_call};
+ghost use Rattle.control_in.specs.DataIn.{data_in_call};
+ghost use Rattle.control_accept.specs.Accept.{accept_call, accept_address_call};
+ghost use Rattle.control_reject.specs.Reject.{reject_call};
+ghost use Rattle.tool_calls_stage.specs.Lent.{bytes_lent};
+
 use control_stage::Stage;
 use state_call::Listed;
 use tool_scripts::{flag, number};
 use world::World;
 
 // Where the bytes are to go is said when they are taken.
-pub fn data_out(rt: &impl Print, list: &mut [u32; 640], world: World, line: &[u8]) -> World {
+pub fn data_out(rt: &impl Print, list: &mut [u32; 640], world: World, line: &[u8]) -> World
+    ensures { result ≡ record world { state = (data_out_call 640 world.state world.events (number_at line.now 0)).state } }
+{
     let result = control_out::data_out(list, world.state, world.events, number(line, 0));
     told(rt, list, world, result)
 }
 
 // 513 bytes are as much too long as any more.
-pub fn data_in(rt: &impl Print, list: &mut [u32; 640], world: World, line: &[u8]) -> World {
+pub fn data_in(rt: &impl Print, list: &mut [u32; 640], world: World, line: &[u8]) -> World
+    ensures { result ≡ record world { state = (data_in_call 640 world.state world.events (number_at line.now 0) (bytes_lent line.now) world.state.ep0_address 512 (flag_at line.now 3) (flag_at line.now 4)).state } }
+{
     let length = number(line, 2);
     let count = length.min(513) as usize;
     let mut bytes = [0u8; 513];
@@ -37,12 +50,16 @@ pub fn data_in(rt: &impl Print, list: &mut [u32; 640], world: World, line: &[u8]
     told(rt, list, world, result)
 }
 
-pub fn accept(rt: &impl Print, list: &mut [u32; 640], world: World, line: &[u8]) -> World {
+pub fn accept(rt: &impl Print, list: &mut [u32; 640], world: World, line: &[u8]) -> World
+    ensures { result ≡ record world { state = (accept_call 640 world.state world.events (number_at line.now 0)).state } }
+{
     let result = control_accept::accept(list, world.state, world.events, number(line, 0));
     told(rt, list, world, result)
 }
 
-pub fn accept_address(rt: &impl Print, list: &mut [u32; 640], world: World, line: &[u8]) -> World {
+pub fn accept_address(rt: &impl Print, list: &mut [u32; 640], world: World, line: &[u8]) -> World
+    ensures { result ≡ record world { state = (accept_address_call 640 world.state world.events (number_at line.now 0) (byte_at line.now 1)).state } }
+{
     let generation = number(line, 0);
     let address = tool_arguments::byte(line, 1);
     let (state, events) = (world.state, world.events);
@@ -50,14 +67,19 @@ pub fn accept_address(rt: &impl Print, list: &mut [u32; 640], world: World, line
     told(rt, list, world, result)
 }
 
-pub fn reject(rt: &impl Print, list: &mut [u32; 640], world: World, line: &[u8]) -> World {
+pub fn reject(rt: &impl Print, list: &mut [u32; 640], world: World, line: &[u8]) -> World
+    ensures { result ≡ record world { state = (reject_call 640 world.state world.events (number_at line.now 0)).state } }
+{
     let result = control_reject::reject(list, world.state, world.events, number(line, 0));
     told(rt, list, world, result)
 }
 
 // What has no number is told as done.
-fn told(rt: &impl Print, list: &[u32; 640], world: World, called: Listed<Stage>) -> World {
+fn told(rt: &impl Print, list: &[u32; 640], world: World, called: Listed<Stage>) -> World
+    ensures { result ≡ record world { state = called.state } }
+{
     tool_print::operations(rt, list, called.end);
-    tool_answers::told(rt, called.answer.map(|_| 0), called.wakes);
+    let (number, value) = tool_answers::numbers(called.answer.map(|_| 0));
+    tool_answers::answer(rt, number, value, called.wakes);
     world.with_state(called.state)
 }

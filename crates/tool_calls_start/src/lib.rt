@@ -1,15 +1,22 @@
 // The driver's start.
 #![tactic(auto)]
 
+ghost use Rattle.std.specs.Prelude.{◌≡◌, cond, ltb};
+ghost use Rattle.tool_scripts.specs.Script.{number_at};
+ghost use Rattle.tool_calls_start.specs.Started.{world_started};
+
 use tool_scripts::number;
 use world::World;
 
-pub fn start(rt: &impl Print, world: World, line: &[u8]) -> World {
+pub fn start(rt: &impl Print, world: World, line: &[u8]) -> World
+    ensures { result ≡ cond (ltb (number_at line.now 0) 65536) (world_started world (number_at line.now 0)) world }
+{
     let Ok(size) = u16::try_from(number(line, 0)) else {
         tool_answers::unfit(rt);
         return world;
     };
     let started = driver_start::start(world.state, world.events, world.driver, size);
-    tool_answers::told(rt, started.answer.map(|()| 0), started.wakes);
+    let (number, value) = tool_answers::numbers(started.answer.map(|()| 0));
+    tool_answers::answer(rt, number, value, started.wakes);
     world.with_state(started.state).with_events(started.events)
 }

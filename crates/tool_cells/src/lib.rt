@@ -11,9 +11,5 @@ pub fn text(rt: &impl Print, bytes: &[u8]) {
 pub fn number(rt: &impl Print, n: u32) {
     let mut line = Line::<11>::new();
     line.cell(n);
-    line.write(rt);
-}
-
-pub fn flag(rt: &impl Print, set: bool) {
-    number(rt, set as u32);
+    let _ = rt.write_all(line.as_bytes());
 }

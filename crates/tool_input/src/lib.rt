@@ -1,7 +1,7 @@
 // An input, line by line, through a buffer. A line that doesn't leave the buffer a free byte is too long.
 #![tactic(auto)]
 
-ghost use Rattle.std.specs.Prelude.{◌≡◌, ◌+◌, ◌≤◌, ◌<◌, length};
+ghost use Rattle.std.specs.Prelude.{◌≡◌, ◌≤◌, ◌<◌};
 
 use std::io::Read;
 
@@ -95,18 +95,5 @@ impl Reader {
         self.buffer.copy_within(self.from..self.end, 0);
         self.end -= self.from;
         self.from = 0;
-    }
-}
-
-// Hands over each line in turn.
-pub fn for_each_line<F: FnMut(Result<&[u8], TooLong>)>(source: &mut impl Read, mut take: F)
-    requires { F.IsAlwaysCallable take }
-{
-    let mut reader = Reader::new();
-    for _ in 0..u64::MAX {
-        match reader.next_line(source) {
-            Some(line) => take(line),
-            None => return,
-        }
     }
 }

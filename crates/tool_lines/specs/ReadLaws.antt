@@ -130,7 +130,7 @@ shuffle true true true true true true false d = refl
 shuffle true true true true true true true d = and-true (ltb d 2)
 
 -- a line is readable where its direction and numbers are, and no field follows
-abbrev passes : List (List ℕ) → Bool
+abbrev pub passes : List (List ℕ) → Bool
 passes fs =
     (((sameb (get_or fs 0 []) «in» || sameb (get_or fs 0 []) out)
     && (((((numberb (get_or fs 1 []) && numberb (get_or fs 2 [])) && numberb (get_or fs 3 [])) && numberb (get_or fs 4 []))
@@ -141,7 +141,7 @@ no_seventh : numberb [] ≡ false
 unfolding numberb
 no_seventh = refl
 
-passes_readable : (fs : List (List ℕ)) → passes fs ≡ readable fs
+pub passes_readable : (fs : List (List ℕ)) → passes fs ≡ readable fs
 unfolding readable noneb
 passes_readable [] = refl
 passes_readable (w ∷ []) = simp (no_seventh, and-false)

@@ -1,4 +1,4 @@
-// Lines of the listing program's input: where one ends, and what it asks for.
+// Lines of a program's input: where one ends, its fields, and what a line of the listing asks for.
 #![tactic(auto)]
 
 mod fields;

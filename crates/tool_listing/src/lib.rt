@@ -1,12 +1,13 @@
 // One line of the listing: its transfer begun in a state of its own, and each of its chains reported.
 #![tactic(auto)]
 
+use ops::OpList;
 use state::{EndpointAddress, Events, State};
 use state_call::Listed;
 use state_slots::{is_busy, slot_at, slot_number};
 use tool_lines::Request;
 use transfer_chain::Report;
-use transfer_piece::Piece;
+use transfer_piece::{Faults, Piece};
 
 pub fn line(rt: &impl Print, list: &mut [u32; 640], text: &[u8]) {
     match tool_lines::read_line(text) {
@@ -39,7 +40,11 @@ fn begun(
         length: request.length,
         zlp: request.incoming & request.zlp,
     };
-    let begun = transfer_begin::begin(list, state, events, endpoint, piece, false, false);
+    let faults = Faults {
+        long: false,
+        unfit: false,
+    };
+    let begun = transfer_begin::begin(list, state, events, endpoint, piece, faults);
     tool_print::operations(rt, list, begun.end);
     begun
 }
@@ -64,8 +69,9 @@ fn reports(
             packets: 255,
             last: request.max_packet_size,
         };
-        let reported = transfer_report::report(list, 0, state, endpoint, report);
-        tool_print::operations(rt, list, reported.end);
-        state = reported.state;
+        let mut ops = OpList::new(list);
+        state = transfer_report::report(&mut ops, state, endpoint, report);
+        let end = ops.end;
+        tool_print::operations(rt, list, end);
     }
 }

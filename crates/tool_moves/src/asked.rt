@@ -1,6 +1,5 @@
 // What a line of `move` or `next` asks for.
-ghost use Rattle.std.specs.Prelude.{◌≡◌, Some, None, cond, min as least, nat_le};
-ghost use Rattle.tool_scripts.specs.Script.{number_at};
+ghost use Rattle.std.specs.Prelude.{◌≡◌, min as least, nat_le};
 ghost use Rattle.tool_moves.specs.Lines.{asked_by, from};
 
 use state::EndpointAddress;
@@ -22,26 +21,28 @@ pub struct Asked {
     pub position: u32,
 }
 
-// What a line asks for, if the bytes have room.
-pub fn read(line: &[u8]) -> Option<Asked>
-    ensures { result ≡ cond (nat_le (number_at line.now 4) 65536) (Some (asked_by line.now)) None }
+pub fn read(line: &[u8]) -> Asked
+    ensures { result ≡ asked_by line.now }
 {
-    let length = number(line, 4);
-    if length <= MOST {
-        return Some(Asked {
-            endpoint: endpoint(line),
-            single: flag(line, 2),
-            address: number(line, 3),
-            length,
-            flag: flag(line, 5),
-            pattern: number(line, 6),
-            position: number(line, 7),
-        });
+    Asked {
+        endpoint: endpoint(line),
+        single: flag(line, 2),
+        address: number(line, 3),
+        length: number(line, 4),
+        flag: flag(line, 5),
+        pattern: number(line, 6),
+        position: number(line, 7),
     }
-    None
 }
 
 impl Asked {
+    // Whether the bytes have room.
+    pub fn fits(self) -> bool
+        ensures { result ≡ nat_le self.length 65536 }
+    {
+        self.length <= MOST
+    }
+
     // The same from another position on, which is never beyond the bytes.
     pub fn onward(self, position: usize) -> Asked
         ensures { result ≡ from self position }

@@ -32,5 +32,5 @@ fn operation(rt: &impl Print, numbers: &[u32])
     line.text(tool_fields::field_name(numbers[3]).as_bytes());
     line.cell(numbers[4]);
     line.text(b"\n");
-    line.write(rt);
+    let _ = rt.write_all(line.as_bytes());
 }

@@ -60,7 +60,10 @@ impl<const N: usize> Line<N> {
         self.number(n);
     }
 
-    pub fn write(&self, rt: &impl Print) {
-        let _ = rt.write_all(&self.bytes[..self.len]);
+    // What was put, to be written.
+    pub fn as_bytes(&self) -> &[u8]
+        ensures { result.now ≡ self.now }
+    {
+        &self.bytes[..self.len]
     }
 }

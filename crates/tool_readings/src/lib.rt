@@ -2,7 +2,6 @@
 #![tactic(auto)]
 
 use state::{LinkFlags, LinkState, LinkStatus, Reading, Setup, TransferStatus};
-use tool_arguments::byte;
 use tool_scripts::{flag, number};
 use tool_words::Word;
 
@@ -76,10 +75,7 @@ fn transfer_status(line: &[u8]) -> TransferStatus {
 fn setup_bytes(line: &[u8]) -> Option<Setup> {
     let mut setup = [0; 8];
     for (k, at) in setup.iter_mut().enumerate() {
-        if number(line, k) > 255 {
-            return None;
-        }
-        *at = byte(line, k);
+        *at = u8::try_from(number(line, k)).ok()?;
     }
     Some(setup)
 }

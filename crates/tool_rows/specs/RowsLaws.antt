@@ -22,7 +22,7 @@ nameless n m ((k, name) ∷ names) t h =
     rw (ne_eqb m k (λ e. omega arith)) (nameless n m names p.1 h)
 
 -- what the test of a table from number i on shows of its number k
-right_at : (names : List (ℕ × String)) (rows : List (Bor (List ℕ))) (i k : ℕ) →
+pub right_at : (names : List (ℕ × String)) (rows : List (Bor (List ℕ))) (i k : ℕ) →
     T (right names i rows) → (name_at rows k ≡ bytes (name_of (i + k) names)) × (length (name_at rows k) ≤ room)
 unfolding name_at
 right_at names [] i k t = (rw (nameless i (i + k) names t (omega arith)) refl, omega arith)

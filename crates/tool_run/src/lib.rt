@@ -2,13 +2,17 @@
 #![tactic(auto)]
 
 use std::io::Read;
-use tool_input::TooLong;
+use tool_input::{Reader, TooLong};
 
 pub fn script(rt: &impl Print, source: &mut impl Read) {
     let mut list = [0u32; 640];
     let mut world = world::fresh();
-    tool_input::for_each_line(source, |line| match line {
-        Ok(line) => world = tool_calls::call(rt, &mut list, world, line),
-        Err(TooLong) => tool_answers::unfit(rt),
-    });
+    let mut reader = Reader::new();
+    for _ in 0..u64::MAX {
+        match reader.next_line(source) {
+            Some(Ok(line)) => world = tool_calls::call(rt, &mut list, world, line),
+            Some(Err(TooLong)) => tool_answers::unfit(rt),
+            None => return,
+        }
+    }
 }

@@ -29,7 +29,7 @@ fn device(rt: &impl Print, state: State, events: Events) {
     line.cell(state.low_power as u32);
     line.cell(events.events as u32);
     line.text(b"\n");
-    line.write(rt);
+    let _ = rt.write_all(line.as_bytes());
 }
 
 // Of a SETUP that nobody has fetched; zeros where there is none.
@@ -40,7 +40,7 @@ fn pending(rt: &impl Print, setup: Option<Setup>) {
         line.cell(byte as u32);
     }
     line.text(b"\n");
-    line.write(rt);
+    let _ = rt.write_all(line.as_bytes());
 }
 
 // The address that waits, or 0.
@@ -49,5 +49,5 @@ fn address(rt: &impl Print, address: Option<u8>) {
     line.text(b"address");
     line.cell(address.unwrap_or(0) as u32);
     line.text(b"\n");
-    line.write(rt);
+    let _ = rt.write_all(line.as_bytes());
 }

@@ -7,8 +7,8 @@ use state::{EndpointConfig, EndpointType, Phase, Slot, State, Transfer};
 use tool_print::Line;
 
 pub fn lines(rt: &impl Print, state: State) {
-    for i in 0..16 {
-        line(rt, i as u32, state.endpoints[i]);
+    for (i, slot) in state.endpoints.iter().enumerate() {
+        line(rt, i as u32, *slot);
     }
 }
 
@@ -26,7 +26,7 @@ fn line(rt: &impl Print, i: u32, slot: Slot) {
         None => line.text(b"\t0\t0\t0\t0\t0\t0"),
     }
     line.text(b"\n");
-    line.write(rt);
+    let _ = rt.write_all(line.as_bytes());
 }
 
 fn phase_number(phase: Phase) -> u32 {

@@ -3,6 +3,7 @@
 
 mod layout;
 
+use ops::OpList;
 use state::{Events, State};
 
 pub fn started(events: Events) -> State {
@@ -18,5 +19,5 @@ pub fn off(list: &mut [u32; 640], state: State, events: Events) -> State {
 }
 
 pub fn reset(list: &mut [u32; 640], state: State) -> State {
-    bus_reset::bus_reset(list, 0, state).state
+    bus_reset::bus_reset(&mut OpList::new(list), state)
 }

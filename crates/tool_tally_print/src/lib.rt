@@ -7,8 +7,7 @@ use tool_print::Line;
 
 pub fn tallies(rt: &impl Print, state: State) {
     text(rt, b"slot\tbegun\tfinished\tcut\tbytes\n");
-    for i in 0..16 {
-        let slot = state.endpoints[i];
+    for (i, slot) in state.endpoints.iter().enumerate() {
         if slot.config.is_some() {
             line(rt, i as u32, slot.tally);
         }
@@ -23,5 +22,5 @@ fn line(rt: &impl Print, i: u32, tally: Tally) {
     line.cell(tally.cut);
     line.cell(tally.bytes);
     line.text(b"\n");
-    line.write(rt);
+    let _ = rt.write_all(line.as_bytes());
 }

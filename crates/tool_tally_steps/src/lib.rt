@@ -3,9 +3,10 @@
 
 ghost use Rattle.std.specs.Prelude.{◌≡◌, true, false};
 
+use ops::OpList;
 use state::{EndpointAddress, Events, State};
 use transfer_chain::Report;
-use transfer_piece::Piece;
+use transfer_piece::{Faults, Piece};
 
 // Where the buffers of the transfers lie.
 const BUFFER: u32 = 0x200B_0000;
@@ -62,7 +63,11 @@ pub fn begun(list: &mut [u32; 640], state: State, endpoint: EndpointAddress, len
         length,
         zlp: false,
     };
-    transfer_begin::begin(list, state, pending(), endpoint, piece, false, false).state
+    let faults = Faults {
+        long: false,
+        unfit: false,
+    };
+    transfer_begin::begin(list, state, pending(), endpoint, piece, faults).state
 }
 
 pub fn taken(state: State, endpoint: EndpointAddress) -> State {
@@ -79,5 +84,5 @@ pub fn reported(
     endpoint: EndpointAddress,
     report: Report,
 ) -> State {
-    transfer_report::report(list, 0, state, endpoint, report).state
+    transfer_report::report(&mut OpList::new(list), state, endpoint, report)
 }

@@ -5,7 +5,7 @@ ghost use Rattle.std.specs.Prelude.{◌≡◌, option_map};
 ghost use Rattle.tool_words.specs.Rows.{first_in, named_in};
 ghost use Rattle.tool_words.specs.Words.{meaning_of};
 
-// The calls that a script may ask for; a line that can't be read is unfit.
+// The calls and readings that a script may ask for; a line that can't be read is unfit.
 #[derive(Clone, Copy, PartialEq, Eq)]
 pub enum Word {
     Unfit,

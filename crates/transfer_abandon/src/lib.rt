@@ -7,18 +7,18 @@ ghost use Rattle.state.specs.Refusals.{first_refusal};
 ghost use Rattle.state_call.specs.Turn.{admitted_of};
 ghost use Rattle.transfer_abandon.specs.Abandon.{abandon_own, settle_time, abandon_call, abandon_numbers, abandon_says};
 
+use ops::OpList;
 use regs_endpoint::abort_busy;
 use state::refusals::refuse_if;
-use state::{Awaited, EndpointAddress, Events, Refusal, State};
-use state_call::{Listed, admit};
+use state::{EndpointAddress, Events, Refusal, State};
+use state_call::{ListEntry, Listed};
 use state_slots::waking::no_wakes;
 use state_slots::{forget, is_busy, is_data_endpoint, slot_place};
-use state_sound::sound;
 
-fn abandon_check(room: usize, good: bool, awaited: Awaited, index: u8) -> Result<(), Refusal>
-    ensures { result ≡ first_refusal (admitted_of room good awaited.next (abandon_own index)) }
+fn abandon_check(lent: ListEntry, index: u8) -> Result<(), Refusal>
+    ensures { result ≡ first_refusal (admitted_of lent.room lent.entry.good lent.entry.awaited.next (abandon_own index)) }
 {
-    admit(room, good, awaited)?;
+    lent.admit()?;
     refuse_if(!is_data_endpoint(index), Refusal::NoDataEndpoint)
 }
 
@@ -44,8 +44,8 @@ pub fn abandon(
     ensures wakes { result.wakes ≡ (abandon_call (list_length ops.old) state events endpoint.index endpoint.incoming).wakes }
     ensures numbers { abandon_numbers result.answer ≡ abandon_says (list_length ops.old) state events endpoint.index endpoint.incoming }
 {
-    let good = sound(state, events);
-    let check = abandon_check(ops.len(), good, state.awaited, endpoint.index);
+    let lent = ListEntry::new(ops.len(), &state, events);
+    let check = abandon_check(lent, endpoint.index);
     let wakes = no_wakes();
     if let Err(refusal) = check {
         return Listed {
@@ -58,12 +58,13 @@ pub fn abandon(
     let i = slot_place(endpoint);
     let slot = state.endpoints[i];
     let busy = is_busy(slot.phase);
-    let end = abort_busy(ops, 0, endpoint.index as u32, endpoint.incoming, busy);
+    let mut list = OpList::new(ops);
+    abort_busy(&mut list, endpoint.index as u32, endpoint.incoming, busy);
     state.endpoints[i] = forget(slot, true, slot.enabled, slot.stalled);
     Listed {
         state,
         answer: Ok(settle_time(endpoint.incoming, busy)),
-        end,
+        end: list.end,
         wakes,
     }
 }

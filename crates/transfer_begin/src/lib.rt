@@ -1,63 +1,52 @@
 // Transfers on the data endpoints 1 to 7, begun (reference: `run` of endpoint.rs).
 #![tactic(auto)]
 
-ghost use Rattle.std.specs.Prelude.{◌≡◌, ◌≤◌, length as list_length};
-ghost use Rattle.ops.specs.Ops.{records};
+ghost use Rattle.std.specs.Prelude.{◌≡◌, length as list_length};
+ghost use Rattle.ops.specs.Lists.{Room, Adds};
 ghost use Rattle.ops.specs.Wrote.{Wrote};
 ghost use Rattle.state.specs.Refusals.{first_refusal};
 ghost use Rattle.state.specs.Numbers.{check_number};
 ghost use Rattle.transfer_window.specs.Window.{windows_ops};
 ghost use Rattle.transfer_begin.specs.Begin.{begin_conditions, begin_call};
 
+use ops::OpList;
 use state::{EndpointAddress, Events, Refusal, State};
-use state_call::{Listed, admit};
+use state_call::{ListEntry, Listed};
 use state_slots::waking::no_wakes;
 use state_slots::{slot_number, slot_place};
-use state_sound::sound;
 use transfer_chain::{CHAIN_PACKETS, queue};
-use transfer_piece::{Piece, begun_slot, slot_check};
+use transfer_piece::{Faults, Piece, begun_slot, slot_check};
 use transfer_window::{in_hand_count, window_at, window_of};
 
-// Whether a transfer may begin. `long` and `unfit` are the caller's: what it is to send is too long, what it lent is unfit.
+// Whether a transfer may begin.
 pub fn begin_check(
     room: usize,
     state: &State,
     events: Events,
     endpoint: EndpointAddress,
     piece: Piece,
-    long: bool,
-    unfit: bool,
+    faults: Faults,
 ) -> Result<(), Refusal>
-    ensures { result ≡ first_refusal (begin_conditions room state.now events endpoint.index endpoint.incoming piece long unfit) }
+    ensures { result ≡ first_refusal (begin_conditions room state.now events endpoint.index endpoint.incoming piece faults.long faults.unfit) }
 {
-    let good = sound(*state, events);
     let i = slot_place(endpoint);
-    admit(room, good, state.awaited)?;
-    slot_check(
-        state.powered,
-        endpoint,
-        state.endpoints[i],
-        piece,
-        long,
-        unfit,
-    )
+    ListEntry::new(room, state, events).admit()?;
+    slot_check(state.powered, endpoint, state.endpoints[i], piece, faults)
 }
 
 // The window of every busy OUT endpoint.
-fn windows(ops: &mut [u32], state: &State) -> usize
-    requires { records 7 ≤ list_length ops.old }
-    ensures { Wrote ops.old 0 (windows_ops state.now) result ops.new }
+fn windows(list: &mut OpList<'_>, state: &State)
+    requires { Room 7 list.old }
+    ensures { Adds list.old (windows_ops state.now) list.new }
 {
     let window = window_of(in_hand_count(state, 14));
-    let mut end = 0;
     for index in 1..8 {
         let i = slot_number(EndpointAddress {
             index,
             incoming: false,
         });
-        end = window_at(ops, end, state.endpoints[i], window, index);
+        window_at(list, state.endpoints[i], window, index);
     }
-    end
 }
 
 // Begins a transfer.
@@ -68,16 +57,15 @@ pub fn begin(
     events: Events,
     endpoint: EndpointAddress,
     piece: Piece,
-    long: bool,
-    unfit: bool,
+    faults: Faults,
 ) -> Listed<()>
-    ensures answer { result.answer ≡ (begin_call (list_length ops.old) state events endpoint.index endpoint.incoming piece long unfit).answer }
-    ensures state { result.state ≡ (begin_call (list_length ops.old) state events endpoint.index endpoint.incoming piece long unfit).state }
-    ensures list { Wrote ops.old 0 (begin_call (list_length ops.old) state events endpoint.index endpoint.incoming piece long unfit).ops result.end ops.new }
-    ensures wakes { result.wakes ≡ (begin_call (list_length ops.old) state events endpoint.index endpoint.incoming piece long unfit).wakes }
-    ensures number { check_number result.answer ≡ check_number (first_refusal (begin_conditions (list_length ops.old) state events endpoint.index endpoint.incoming piece long unfit)) }
+    ensures answer { result.answer ≡ (begin_call (list_length ops.old) state events endpoint.index endpoint.incoming piece faults.long faults.unfit).answer }
+    ensures state { result.state ≡ (begin_call (list_length ops.old) state events endpoint.index endpoint.incoming piece faults.long faults.unfit).state }
+    ensures list { Wrote ops.old 0 (begin_call (list_length ops.old) state events endpoint.index endpoint.incoming piece faults.long faults.unfit).ops result.end ops.new }
+    ensures wakes { result.wakes ≡ (begin_call (list_length ops.old) state events endpoint.index endpoint.incoming piece faults.long faults.unfit).wakes }
+    ensures number { check_number result.answer ≡ check_number (first_refusal (begin_conditions (list_length ops.old) state events endpoint.index endpoint.incoming piece faults.long faults.unfit)) }
 {
-    let check = begin_check(ops.len(), &state, events, endpoint, piece, long, unfit);
+    let check = begin_check(ops.len(), &state, events, endpoint, piece, faults);
     let wakes = no_wakes();
     if let Err(refusal) = check {
         return Listed {
@@ -90,12 +78,13 @@ pub fn begin(
     let i = slot_place(endpoint);
     // this transfer is in hand when the windows are decided
     state.endpoints[i] = begun_slot(state.endpoints[i], piece);
-    let at = windows(ops, &state);
-    let end = queue(ops, at, CHAIN_PACKETS, endpoint, &mut state.endpoints[i]);
+    let mut list = OpList::new(ops);
+    windows(&mut list, &state);
+    queue(&mut list, CHAIN_PACKETS, endpoint, &mut state.endpoints[i]);
     Listed {
         state,
         answer: Ok(()),
-        end,
+        end: list.end,
         wakes,
     }
 }

@@ -42,7 +42,7 @@ out_chain limit m t = record { dma = place t; packets = chain_packets limit m (l
 
 -- an IN transfer is further by the chain that it handed over; an empty chain clears the flag
 abbrev pub sent : Transfer → Chain → Transfer
-sent t k = record { address = t.address; length = t.length; progress = k.progress; zlp = t.zlp && not (k.bytes == 0) }
+sent t k = record t { progress = k.progress; zlp = t.zlp && not (k.bytes == 0) }
 
 -- the bytes of an OUT report: p packets, held to 1..expected, all but the last full, and the last of n bytes, at most M
 abbrev pub reported : ℕ → ℕ → ℕ → ℕ → ℕ

@@ -2,12 +2,12 @@
 // `data_irq` of device.rs).
 #![tactic(auto)]
 
-ghost use Rattle.std.specs.Prelude.{◌≡◌, ◌+◌, ◌≤◌, true, length};
-ghost use Rattle.ops.specs.Ops.{records};
-ghost use Rattle.ops.specs.Wrote.{Wrote};
+ghost use Rattle.std.specs.Prelude.{◌≡◌, ◌≤◌, true};
+ghost use Rattle.ops.specs.Lists.{Room, Adds};
 ghost use Rattle.transfer_chain.specs.Chains.{chain_packets, left, place, in_chain, out_chain, sent, arrived, in_goes_on, out_goes_on, queued_slot, queue_ops};
 
 use base::div_ceil;
+use ops::OpList;
 use regs_endpoint::{chain_in, chain_out};
 use state::{EndpointAddress, Slot, Transfer};
 use state_slots::{own_buffer, slot_size};
@@ -128,34 +128,29 @@ pub fn out_goes_on(m: u16, transfer: Transfer, last: u32) -> bool
 }
 
 // Hands the next chain of a slot's transfer over.
-pub fn queue(
-    ops: &mut [u32],
-    at: usize,
-    limit: u8,
-    endpoint: EndpointAddress,
-    slot: &mut Slot,
-) -> usize
-    requires { at + records 5 ≤ length ops.old }
+pub fn queue(list: &mut OpList<'_>, limit: u8, endpoint: EndpointAddress, slot: &mut Slot)
+    requires { Room 5 list.old }
     ensures slot { slot.new ≡ queued_slot limit endpoint.incoming slot.old }
-    ensures list { Wrote ops.old at (queue_ops limit endpoint.index endpoint.incoming slot.old) result ops.new }
+    ensures list { Adds list.old (queue_ops limit endpoint.index endpoint.incoming slot.old) list.new }
 {
     let e = endpoint.index as u32;
     if endpoint.incoming {
-        return queue_in(ops, at, limit, e, slot);
+        queue_in(list, limit, e, slot);
+        return;
     }
     let m = slot_size(*slot);
     let chain = out_chain(limit, m, slot.transfer);
-    chain_out(ops, at, e, chain.dma, m as u32, chain.packets)
+    chain_out(list, e, chain.dma, m as u32, chain.packets);
 }
 
-fn queue_in(ops: &mut [u32], at: usize, limit: u8, e: u32, slot: &mut Slot) -> usize
-    requires { at + records 5 ≤ length ops.old }
+fn queue_in(list: &mut OpList<'_>, limit: u8, e: u32, slot: &mut Slot)
+    requires { Room 5 list.old }
     ensures slot { slot.new ≡ queued_slot limit true slot.old }
-    ensures list { Wrote ops.old at (queue_ops limit e true slot.old) result ops.new }
+    ensures list { Adds list.old (queue_ops limit e true slot.old) list.new }
 {
     let m = slot_size(*slot);
     let own = own_buffer(*slot);
     let chain = in_chain(limit, m, own.address, slot.transfer);
     slot.transfer = after_chain(slot.transfer, chain);
-    chain_in(ops, at, e, chain.dma, m as u32, chain.last, chain.packets)
+    chain_in(list, e, chain.dma, m as u32, chain.last, chain.packets);
 }

@@ -18,6 +18,13 @@ pub struct Piece {
     pub zlp: bool,
 }
 
+// What the caller says against it: what it is to send is too long, what it lent is unfit.
+#[derive(Clone, Copy)]
+pub struct Faults {
+    pub long: bool,
+    pub unfit: bool,
+}
+
 // Whether the controller can move a piece of memory in this direction.
 pub fn piece_fits(incoming: bool, m: u16, address: u32, length: u32) -> bool
     ensures { result ≡ piece_fits incoming m address length }
@@ -36,14 +43,13 @@ pub fn slot_check(
     endpoint: EndpointAddress,
     slot: Slot,
     piece: Piece,
-    long: bool,
-    unfit: bool,
+    faults: Faults,
 ) -> Result<(), Refusal>
-    ensures { result ≡ first_refusal (begin_own powered endpoint.index endpoint.incoming piece.address piece.length long unfit slot) }
+    ensures { result ≡ first_refusal (begin_own powered endpoint.index endpoint.incoming piece.address piece.length faults.long faults.unfit slot) }
 {
     let able = (powered & slot.enabled) & !slot.stalled;
     refuse_if(!is_data_endpoint(endpoint.index), Refusal::NoDataEndpoint)?;
-    refuse_if(long, Refusal::TooLong)?;
+    refuse_if(faults.long, Refusal::TooLong)?;
     refuse_if(!able, Refusal::Disabled)?;
     refuse_if(!is_idle(slot.phase), Refusal::InHand)?;
     let fits = piece_fits(
@@ -52,7 +58,7 @@ pub fn slot_check(
         piece.address,
         piece.length,
     );
-    refuse_if(unfit | !fits, Refusal::UnfitBuffer)
+    refuse_if(faults.unfit | !fits, Refusal::UnfitBuffer)
 }
 
 // The slot that has taken a transfer on, with nothing of it moved.

@@ -1,12 +1,12 @@
 // What a report is to its slot, and what follows (reference: `data_irq` of device.rs).
 #![tactic(auto)]
 
-ghost use Rattle.std.specs.Prelude.{◌≡◌, ◌+◌, ◌≤◌, ◌++◌, length, false};
-ghost use Rattle.ops.specs.Ops.{records};
-ghost use Rattle.ops.specs.Wrote.{Wrote};
+ghost use Rattle.std.specs.Prelude.{◌≡◌, ◌+◌, ◌++◌, false};
+ghost use Rattle.ops.specs.Lists.{Room, Adds};
 ghost use Rattle.transfer_chain.specs.Chains.{queued_slot, queue_ops};
 ghost use Rattle.transfer_step.specs.Step.{step_of, report_step, slot_after, wake_after, window_after, list_after};
 
+use ops::OpList;
 use regs_endpoint::set_out_window;
 use state::{EndpointAddress, Slot};
 use state_slots::completing::{done, waiter_of};
@@ -22,12 +22,11 @@ pub enum Step {
     Completes(Slot),
 }
 
-// What a report leaves of its slot, the slots to wake, and where the list ends.
+// What a report leaves of its slot, and the slots to wake.
 #[derive(Clone, Copy)]
 pub struct Followed {
     pub slot: Slot,
     pub wake: u16,
-    pub end: usize,
 }
 
 fn step_of(busy: bool, more: bool, slot: Slot) -> Step
@@ -67,29 +66,20 @@ fn report_step(limit: u8, incoming: bool, slot: Slot, report: Report) -> Step
 }
 
 // The next chain, and behind it the window of an OUT endpoint.
-fn go_on(
-    ops: &mut [u32],
-    at: usize,
-    limit: u8,
-    window: u32,
-    endpoint: EndpointAddress,
-    slot: &mut Slot,
-) -> usize
-    requires { at + records 6 ≤ length ops.old }
+fn go_on(list: &mut OpList<'_>, limit: u8, window: u32, endpoint: EndpointAddress, slot: &mut Slot)
+    requires { Room 6 list.old }
     ensures slot { slot.new ≡ queued_slot limit endpoint.incoming slot.old }
-    ensures list { Wrote ops.old at (queue_ops limit endpoint.index endpoint.incoming slot.old ++ window_after window endpoint.index endpoint.incoming) result ops.new }
+    ensures list { Adds list.old (queue_ops limit endpoint.index endpoint.incoming slot.old ++ window_after window endpoint.index endpoint.incoming) list.new }
 {
-    let end = queue(ops, at, limit, endpoint, slot);
-    if endpoint.incoming {
-        return end;
+    queue(list, limit, endpoint, slot);
+    if !endpoint.incoming {
+        set_out_window(list, endpoint.index as u32, window);
     }
-    set_out_window(ops, end, endpoint.index as u32, window)
 }
 
 // The next chain, or the end of the transfer, which wakes slot i when the interrupt ends, or nothing.
 fn follow(
-    ops: &mut [u32],
-    at: usize,
+    list: &mut OpList<'_>,
     limit: u8,
     window: u32,
     endpoint: EndpointAddress,
@@ -98,29 +88,23 @@ fn follow(
     slot: Slot,
     step: Step,
 ) -> Followed
-    requires { at + records 6 ≤ length ops.old }
+    requires { Room 6 list.old }
     ensures slot { result.slot ≡ slot_after limit endpoint.incoming slot step }
     ensures wake { result.wake ≡ wake_after wake i step }
-    ensures list { Wrote ops.old at (list_after limit window endpoint.index endpoint.incoming step) result.end ops.new }
+    ensures list { Adds list.old (list_after limit window endpoint.index endpoint.incoming step) list.new }
 {
     match step {
-        Step::Ignored => Followed {
-            slot,
-            wake,
-            end: at,
-        },
+        Step::Ignored => Followed { slot, wake },
         Step::GoesOn(mut counted) => {
-            let end = go_on(ops, at, limit, window, endpoint, &mut counted);
+            go_on(list, limit, window, endpoint, &mut counted);
             Followed {
                 slot: counted,
                 wake,
-                end,
             }
         }
         Step::Completes(counted) => Followed {
             slot: done(counted),
             wake: add_slot(wake, waiter_of(i)),
-            end: at,
         },
     }
 }
@@ -129,8 +113,7 @@ fn follow(
 // more.
 #[inline(never)]
 pub fn report_slot(
-    ops: &mut [u32],
-    at: usize,
+    list: &mut OpList<'_>,
     limit: u8,
     window: u32,
     endpoint: EndpointAddress,
@@ -139,11 +122,11 @@ pub fn report_slot(
     slot: Slot,
     report: Report,
 ) -> Followed
-    requires { at + records 6 ≤ length ops.old }
+    requires { Room 6 list.old }
     ensures slot { result.slot ≡ slot_after limit endpoint.incoming slot (report_step limit endpoint.incoming report.packets report.last slot) }
     ensures wake { result.wake ≡ wake_after wake i (report_step limit endpoint.incoming report.packets report.last slot) }
-    ensures list { Wrote ops.old at (list_after limit window endpoint.index endpoint.incoming (report_step limit endpoint.incoming report.packets report.last slot)) result.end ops.new }
+    ensures list { Adds list.old (list_after limit window endpoint.index endpoint.incoming (report_step limit endpoint.incoming report.packets report.last slot)) list.new }
 {
     let step = report_step(limit, endpoint.incoming, slot, report);
-    follow(ops, at, limit, window, endpoint, i, wake, slot, step)
+    follow(list, limit, window, endpoint, i, wake, slot, step)
 }

@@ -8,11 +8,10 @@ ghost use Rattle.state_call.specs.Turn.{turn_of};
 ghost use Rattle.transfer_take.specs.Take.{take_own, taken_slot, took_at, take_call, take_numbers, take_says};
 
 use state::refusals::refuse_if;
-use state::{Awaited, EndpointAddress, Events, Phase, Refusal, Slot, State, Tally};
-use state_call::{Answered, turn_of};
+use state::{EndpointAddress, Events, Phase, Refusal, Slot, State, Tally};
+use state_call::{Answered, Entry};
 use state_slots::waking::no_wakes;
 use state_slots::{is_busy, is_data_endpoint, is_idle, slot_place};
-use state_sound::sound;
 
 #[derive(Clone, Copy)]
 struct Took {
@@ -35,16 +34,10 @@ fn taken_slot(slot: Slot) -> Slot
     }
 }
 
-fn take_check(
-    good: bool,
-    awaited: Awaited,
-    index: u8,
-    unfit: bool,
-    slot: Slot,
-) -> Result<(), Refusal>
-    ensures { result ≡ first_refusal (turn_of good awaited.next (take_own index unfit slot)) }
+fn take_check(entry: Entry, index: u8, unfit: bool, slot: Slot) -> Result<(), Refusal>
+    ensures { result ≡ first_refusal (turn_of entry.good entry.awaited.next (take_own index unfit slot)) }
 {
-    turn_of(good, awaited)?;
+    entry.admit()?;
     refuse_if(!is_data_endpoint(index), Refusal::NoDataEndpoint)?;
     refuse_if(is_idle(slot.phase), Refusal::Disabled)?;
     refuse_if(unfit, Refusal::UnfitBuffer)
@@ -95,10 +88,10 @@ pub fn take(
     ensures wakes { result.wakes ≡ (take_call state events endpoint.index endpoint.incoming unfit most).wakes }
     ensures numbers { take_numbers result.answer ≡ take_says state events endpoint.index endpoint.incoming unfit most }
 {
-    let good = sound(state, events);
+    let entry = Entry::new(&state, events);
     let i = slot_place(endpoint);
     let slot = state.endpoints[i];
-    let check = take_check(good, state.awaited, endpoint.index, unfit, slot);
+    let check = take_check(entry, endpoint.index, unfit, slot);
     let took = take_slot(check, most, slot);
     state.endpoints[i] = took.slot;
     Answered {

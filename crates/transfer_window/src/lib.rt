@@ -1,14 +1,14 @@
 // The window of OUT endpoints (reference: `out_window` and `start` of device.rs).
 #![tactic(auto)]
 
-ghost use Rattle.std.specs.Prelude.{◌≡◌, ◌+◌, ◌≤◌, not, cond, [], length};
-ghost use Rattle.ops.specs.Ops.{records};
-ghost use Rattle.ops.specs.Wrote.{Wrote};
+ghost use Rattle.std.specs.Prelude.{◌≡◌, ◌+◌, ◌≤◌, not, cond, []};
+ghost use Rattle.ops.specs.Lists.{Room, Adds};
 ghost use Rattle.base.specs.Bits.{bit};
 ghost use Rattle.state_slots.specs.Slots.{idleb, busyb};
 ghost use Rattle.regs_endpoint.specs.Endpoint.{window_ops};
 ghost use Rattle.transfer_window.specs.Window.{in_hand_count, window_of};
 
+use ops::OpList;
 use regs_endpoint::set_out_window;
 use state::{Slot, State};
 use state_slots::{is_busy, is_idle};
@@ -21,7 +21,8 @@ pub fn counted(count: u32, slot: Slot) -> u32
     count + !is_idle(slot.phase) as u32
 }
 
-// How many of the first `most` data slots, from slot 2 on, have a transfer in hand.
+// How many of the first `most` data slots, from slot 2 on, have a transfer in hand. A filter that is counted was tried, and
+// takes 80 instructions more.
 pub fn in_hand_count(state: &State, most: usize) -> u32
     requires { most ≤ 14 }
     ensures { result ≡ in_hand_count state.now most }
@@ -41,12 +42,11 @@ pub fn window_of(count: u32) -> u32
 }
 
 // The window of an OUT endpoint, where it is busy.
-pub fn window_at(ops: &mut [u32], at: usize, slot: Slot, window: u32, index: u8) -> usize
-    requires { at + records 1 ≤ length ops.old }
-    ensures { Wrote ops.old at (cond (busyb slot.phase) (window_ops index window) []) result ops.new }
+pub fn window_at(list: &mut OpList<'_>, slot: Slot, window: u32, index: u8)
+    requires { Room 1 list.old }
+    ensures { Adds list.old (cond (busyb slot.phase) (window_ops index window) []) list.new }
 {
     if is_busy(slot.phase) {
-        return set_out_window(ops, at, index as u32, window);
+        set_out_window(list, index as u32, window);
     }
-    at
 }

@@ -4,19 +4,19 @@ use Rattle.state.specs.Refusals.{first_refusal}
 use Rattle.bus_events.specs.Poll.{poll_conditions}
 use Rattle.bus_events.specs.EventLaws.{poll_refused, poll_made}
 use Rattle.bus_events.proofs.poll.Goals as goal
-use Rattle.bus_events.proofs.poll.Goals.{After-turn_of-check}
+use Rattle.bus_events.proofs.poll.Goals.{After-admit-check}
 
-checked : (c : After-turn_of-check) → first_refusal (poll_conditions c.args.state c.args.events) ≡ c.turn_of-check.result
-checked c = sym (rw c.sound-good.ensures at c.turn_of-check.ensures)
+checked : (c : After-admit-check) → first_refusal (poll_conditions c.args.state c.args.events) ≡ c.admit-check.result
+checked c = sym (rw c.new.ensures at c.admit-check.ensures)
 
 pub returns-in-Err : goal.returns-in-Err
 returns-in-Err c =
     let a = c.args in
-    let o = poll_refused a.state a.events _ (checked (goal.at.returns-in-Err c).After-turn_of-check ∙ c.in-Err.is) in
+    let o = poll_refused a.state a.events _ (checked (goal.at.returns-in-Err c).After-admit-check ∙ c.in-Err.is) in
     record { answer = o.0; events = o.1.0; wakes = c.no_wakes-wakes.ensures ∙ o.1.1.0; numbers = o.1.1.1 }
 
 pub returns : goal.returns
 returns c =
     let a = c.args in
-    let o = poll_made a.state a.events (checked (goal.at.returns c).After-turn_of-check ∙ c.in_default.is) in
+    let o = poll_made a.state a.events (checked (goal.at.returns c).After-admit-check ∙ c.in_default.is) in
     record { answer = rw c.next_pending-pending.ensures o.0; events = rw (c.without.ensures, c.next_pending-pending.ensures) o.1.0; wakes = c.no_wakes-wakes.ensures ∙ o.1.1.0; numbers = rw c.next_pending-pending.ensures o.1.1.1 }

@@ -7,7 +7,7 @@ use Rattle.bus_events.proofs.raise.Goals as goal
 use Rattle.bus_events.proofs.raise.Goals.{After-raise_check-check}
 
 checked : (c : After-raise_check-check) → first_refusal (raise_conditions c.args.state c.args.events c.args.event) ≡ c.raise_check-check.result
-checked c = sym (rw c.sound-good.ensures at c.raise_check-check.ensures)
+checked c = sym (rw c.new.ensures at c.raise_check-check.ensures)
 
 pub returns-in-Err : goal.returns-in-Err
 returns-in-Err c =

@@ -1,5 +1,5 @@
 -- `power_off`: refused, or shut down, and the slots so far are off where they lie.
-use Rattle.std.proofs.Common.{◌≡◌, ap, sym, ◌∙◌, arith, length}
+use Rattle.std.proofs.Common.{rules, ◌≡◌, ap, sym, ◌∙◌, arith, length}
 use Rattle.base.specs.EachLaws.{change_none}
 use Rattle.ops.specs.WroteLaws.{same, none}
 use Rattle.state.specs.declared.State.{State}
@@ -12,7 +12,7 @@ use Rattle.bus_power_off.proofs.power_off.Goals as goal
 pub returns-in-Err : goal.returns-in-Err
 returns-in-Err c =
     let a = c.args in
-    let o = off_refused (length a.ops.now) a.state a.events _ (sym (rw c.sound-good.ensures at c.in-Err.ensures)) in
+    let o = off_refused (length a.ops.now) a.state a.events _ (sym (rw c.new.ensures at c.in-Err.ensures)) in
     record { answer = o.0; state = o.1.0; list = same o.1.1.0 (none _ 0); wakes = c.no_wakes.ensures ∙ o.1.1.1.0; number = o.1.1.1.1 }
 
 pub loop-i-init : goal.loop-i-init
@@ -29,5 +29,5 @@ pub returns : goal.returns
 returns c =
     let a = c.args in
     let full : c.loop-i.i ≡ 16 = omega arith in
-    let o = off_made (length a.ops.now) a.state a.events (sym (rw c.sound-good.ensures at c.in_default.ensures)) in
-    record { answer = o.0; state = rw (rw full at c.loop-i.invariant) o.1.0; list = same o.1.1.0 c.shut-end.ensures; wakes = c.wake_all.ensures ∙ o.1.1.1.0; number = o.1.1.1.1 }
+    let o = off_made (length a.ops.now) a.state a.events (sym (rw c.new.ensures at c.in_default.ensures)) in
+    record { answer = o.0; state = rw (rw full at c.loop-i.invariant) o.1.0; list = same o.1.1.0 (search rules); wakes = c.wake_all.ensures ∙ o.1.1.1.0; number = o.1.1.1.1 }

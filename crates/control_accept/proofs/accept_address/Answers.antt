@@ -10,7 +10,7 @@ use Rattle.control_accept.proofs.accept_address.Goals as goal
 use Rattle.control_accept.proofs.accept_address.Goals.{After-admit_stage-check}
 
 checked : (c : After-admit_stage-check) → first_refusal (address_conditions (length c.args.ops.now) c.args.state c.args.events c.args.generation c.args.address) ≡ c.admit_stage-check.result
-checked c = sym (rw (c.is_served-served.ensures, c.sound-good.ensures) at c.admit_stage-check.ensures)
+checked c = sym (rw (c.is_served.ensures, c.sound.ensures) at c.admit_stage-check.ensures)
 
 pub returns-in-Err : goal.returns-in-Err
 returns-in-Err c =

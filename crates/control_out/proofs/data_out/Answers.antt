@@ -1,5 +1,5 @@
 -- Refused, or begun.
-use Rattle.std.proofs.Common.{◌≡◌, ap, sym, ◌∙◌, length}
+use Rattle.std.proofs.Common.{rules, ◌≡◌, ap, sym, ◌∙◌, length}
 use Rattle.ops.specs.WroteLaws.{same, none}
 use Rattle.state.specs.Refusals.{first_refusal}
 use Rattle.control_stage.specs.Stage.{stage_numbers}
@@ -9,7 +9,7 @@ use Rattle.control_out.proofs.data_out.Goals as goal
 use Rattle.control_out.proofs.data_out.Goals.{After-admit_stage-check}
 
 checked : (c : After-admit_stage-check) → first_refusal (data_out_conditions (length c.args.ops.now) c.args.state c.args.events c.args.generation) ≡ c.admit_stage-check.result
-checked c = sym (rw (c.is_served-served.ensures, c.sound-good.ensures) at c.admit_stage-check.ensures)
+checked c = sym (rw (c.is_served.ensures, c.new-lent.ensures) at c.admit_stage-check.ensures)
 
 pub returns-in-Err : goal.returns-in-Err
 returns-in-Err c =
@@ -22,4 +22,4 @@ pub returns : goal.returns
 returns c =
     let a = c.args in
     let o = data_out_made (length a.ops.now) a.state a.events a.generation (checked (goal.at.returns c).After-admit_stage-check ∙ c.in_default.is) in
-    record { answer = o.0; state = rw c.staged.ensures o.1.0; list = same o.1.1.0 c.ep0_rx_ready-end.ensures; wakes = c.no_wakes.ensures ∙ o.1.1.1.0; numbers = o.1.1.1.1.1 }
+    record { answer = o.0; state = rw c.staged.ensures o.1.0; list = same o.1.1.0 (search rules); wakes = c.no_wakes.ensures ∙ o.1.1.1.0; numbers = o.1.1.1.1.1 }

@@ -9,7 +9,7 @@ use Rattle.control_take_out.proofs.take_out.Goals as goal
 use Rattle.control_take_out.proofs.take_out.Goals.{After-stage_check-check}
 
 checked : (c : After-stage_check-check) → first_refusal (take_out_conditions c.args.state c.args.events c.args.generation (ep0_unfit c.args.state c.args.address (length c.args.ep0.now))) ≡ c.stage_check-check.result
-checked c = sym (rw (c.is_unfit-unfit.ensures, c.is_served-served.ensures, c.sound-good.ensures) at c.stage_check-check.ensures)
+checked c = sym (rw (c.is_unfit-unfit.ensures, c.is_served-served.ensures, c.new.ensures) at c.stage_check-check.ensures)
 
 pub returns-in-Err : goal.returns-in-Err
 returns-in-Err c =
@@ -18,23 +18,17 @@ returns-in-Err c =
     let x = c.answered.ensures in
     record { answer = x.answer ∙ o.0; state = x.state ∙ o.1.0; wakes = x.wakes ∙ o.1.1.0; numbers = ap take_numbers x.answer ∙ o.1.1.1.1; lent = rw (sym o.1.1.1.0) refl }
 
-pub returns-then-not-done : goal.returns-then-not-done
-returns-then-not-done c =
+pub returns-then-not-is_done : goal.returns-then-not-is_done
+returns-then-not-is_done c =
     let a = c.args in
-    let o = take_out_busy a.state a.events a.generation (length a.out.now) a.ep0.now a.address (checked (goal.at.returns-then-not-done c).After-stage_check-check ∙ c.in_default.is) (sym c.is_done-done.ensures ∙ c.if-not-done.true) in
-    let x = c.answered-then-not-done.ensures in
+    let o = take_out_busy a.state a.events a.generation (length a.out.now) a.ep0.now a.address (checked (goal.at.returns-then-not-is_done c).After-stage_check-check ∙ c.in_default.is) (sym c.is_done.ensures ∙ c.if-not-is_done.true) in
+    let x = c.answered-then-not-is_done.ensures in
     record { answer = x.answer ∙ o.0; state = x.state ∙ o.1.0; wakes = x.wakes ∙ o.1.1.0; numbers = ap take_numbers x.answer ∙ o.1.1.1.1; lent = rw (sym o.1.1.1.0) refl }
-
-pub copy_out-answer-requires : goal.copy_out-answer-requires
-copy_out-answer-requires c =
-    let a = c.args in
-    let lent = take_out_lent a.state a.events a.generation (length a.out.now) a.ep0.now a.address (checked (goal.at.copy_out-answer-requires c).After-stage_check-check ∙ c.in_default.is) in
-    omega (arith, lent)
 
 pub returns : goal.returns
 returns c =
     let a = c.args in
-    let o = take_out_closed a.state a.events a.generation (length a.out.now) a.ep0.now a.address (checked (goal.at.returns c).After-stage_check-check ∙ c.in_default.is) (sym c.is_done-done.ensures ∙ c.if-not-done.false) in
+    let o = take_out_closed a.state a.events a.generation (length a.out.now) a.ep0.now a.address (checked (goal.at.returns c).After-stage_check-check ∙ c.in_default.is) (sym c.is_done.ensures ∙ c.if-not-is_done.false) in
     let x = c.answered-2.ensures in
     let y = c.copy_out-answer.ensures in
     record { answer = x.answer ∙ (y.answer ∙ o.0); state = rw c.idle.ensures at x.state ∙ o.1.0; wakes = x.wakes ∙ o.1.1.0; numbers = ap take_numbers (x.answer ∙ y.answer) ∙ o.1.1.1.1; lent = rw (sym o.1.1.1.0) y.lent }

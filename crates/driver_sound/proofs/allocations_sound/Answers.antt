@@ -1,27 +1,16 @@
--- `allocations_sound`: out at the first allocation that is not.
-use Rattle.std.proofs.Common.{◌≡◌, ℕ, ◌<◌, Bool, true, false, refl, sym, ◌∙◌}
-use Rattle.base.specs.EachLaws.{every_none, every_at, every_step, true_not_false}
-use Rattle.state.specs.declared.Driver.{Driver}
-use Rattle.state.specs.Fresh.{allocation_at}
+-- `allocations_sound`: each allocation by its number.
+use Rattle.std.proofs.Common.{ℕ, rules, tests, ◌∙◌, Option, None}
+use Rattle.std.proofs.lemmas.Iterator.{YieldsList-from_slice}
+use Rattle.std.proofs.lemmas.Iterator.Consumers.{YieldsList-from_enumerate}
+use Rattle.std.proofs.lemmas.Iterator.Search.{all_from_yields_List}
+use Rattle.base.specs.EachLaws.{every_listed}
+use Rattle.state.specs.declared.EndpointConfig.{EndpointConfig}
 use Rattle.state_sound.specs.Sound.{configb, allocationsb}
 use Rattle.driver_sound.proofs.allocations_sound.Goals as goal
 
--- one that is wrong is enough
-one_wrong : (d : Driver) (i : ℕ) → i < 16 → configb i (allocation_at d i) ≡ false → (b : Bool) → allocationsb d 16 ≡ b → false ≡ b
+pub returns : goal.returns
 unfolding allocationsb
-one_wrong d i l h false e = refl
-one_wrong d i l h true e = absurd (true_not_false (sym (every_at (λ k. configb k (allocation_at d k)) 16 i e l) ∙ h))
-
-pub loop-i-init : goal.loop-i-init
-unfolding allocationsb
-loop-i-init c = every_none _
-
-pub returns-then-not-allocation_sound : goal.returns-then-not-allocation_sound
-returns-then-not-allocation_sound c =
-    one_wrong c.args.driver c.loop-i.i c.loop-i-test.true (sym c.allocation_sound.ensures ∙ c.if-not-allocation_sound.true) _ refl
-
-pub loop-i-preserved : goal.loop-i-preserved
-unfolding allocationsb
-loop-i-preserved c =
-    let l = c.loop-i in
-    sym (every_step _ l.i true true (sym l.invariant) (sym c.if-not-allocation_sound.false ∙ c.allocation_sound.ensures))
+returns c =
+    let l = c.args.driver.endpoints in
+    all_from_yields_List (λ (e : ℕ × Option EndpointConfig). configb e.0 e.1) _ _ c.all.result c.all.ensures.ran (YieldsList-from_enumerate (YieldsList-from_slice l cc) (cc)) (λ x b q k. search (rules, tests))
+    ∙ every_listed configb None l 16 (cc)

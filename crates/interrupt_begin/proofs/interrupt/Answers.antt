@@ -9,7 +9,7 @@ use Rattle.interrupt_begin.proofs.interrupt.Goals as goal
 use Rattle.interrupt_begin.proofs.interrupt.Goals.{After-admit-check}
 
 checked : (c : After-admit-check) → first_refusal (interrupt_conditions (length c.args.ops.now) c.args.state c.args.events) ≡ c.admit-check.result
-checked c = sym (rw c.sound-good.ensures at c.admit-check.ensures)
+checked c = sym (rw c.new.ensures at c.admit-check.ensures)
 
 pub returns-in-Err : goal.returns-in-Err
 returns-in-Err c =

@@ -10,7 +10,7 @@ use Rattle.state_sound.proofs.config_fits.Goals.{After-is_aligned-even}
 met : (c : After-is_aligned-even) (t : Bool) → (packet_size c.args.config.max_packet_size && (c.in_ram-inside.result && c.is_aligned-even.result)) ≡ t
     → (t && whole_packets c.args.config.buffer.size c.args.config.max_packet_size) ≡ configb c.args.i (Some c.args.config)
 met c t h =
-    config_last c.args.i c.args.config c.in_ram-inside.result c.is_aligned-even.result t (eq-eqb _ _ (sym c.slot_number-number.ensures ∙ c.if-number-i.false)) c.in_ram-inside.ensures c.is_aligned-even.ensures h
+    config_last c.args.i c.args.config c.in_ram-inside.result c.is_aligned-even.result t (eq-eqb _ _ (sym c.slot_number.ensures ∙ c.if-slot_number-i.false)) c.in_ram-inside.ensures c.is_aligned-even.ensures h
 
 pub returns-then-m-inside : goal.returns-then-m-inside
 returns-then-m-inside c = c.whole_packets.ensures ∙ met (goal.at.returns-then-m-inside c).After-is_aligned-even true c.if-m-inside.true
@@ -18,5 +18,5 @@ returns-then-m-inside c = c.whole_packets.ensures ∙ met (goal.at.returns-then-
 pub returns : goal.returns
 returns c = met (goal.at.returns c).After-is_aligned-even false c.if-m-inside.false
 
-pub returns-then-number-i : goal.returns-then-number-i
-returns-then-number-i c = config_other _ _ (rw (sym c.slot_number-number.ensures) (ne_eqb _ _ c.if-number-i.true))
+pub returns-then-slot_number-i : goal.returns-then-slot_number-i
+returns-then-slot_number-i c = config_other _ _ (rw (sym c.slot_number.ensures) (ne_eqb _ _ c.if-slot_number-i.true))

@@ -1,28 +1,22 @@
--- `sound`: out at the first slot that is not.
-use Rattle.std.proofs.Common.{◌≡◌, true, sym, ◌∙◌, arith}
-use Rattle.base.specs.EachLaws.{every_none, every_step}
-use Rattle.state_sound.specs.Sound.{slotsb}
-use Rattle.state_sound.proofs.SoundLaws.{sound_bad_own, sound_bad_slot, sound_all}
+-- `sound`: the slots and the rest.
+use Rattle.std.proofs.Common.{ℕ, rules, tests, sym, ◌∙◌}
+use Rattle.std.proofs.lemmas.Iterator.{YieldsList-from_slice}
+use Rattle.std.proofs.lemmas.Iterator.Consumers.{YieldsList-from_enumerate}
+use Rattle.std.proofs.lemmas.Iterator.Search.{all_from_yields_List}
+use Rattle.base.specs.EachLaws.{every_listed}
+use Rattle.state.specs.declared.Slot.{Slot}
+use Rattle.state.specs.Fresh.{fresh_slot}
+use Rattle.state_sound.specs.Sound.{slotb, slotsb}
+use Rattle.state_sound.proofs.SoundLaws.{sound_slots, sound_bad_own}
 use Rattle.state_sound.proofs.sound.Goals as goal
 
-pub returns-then-not-own : goal.returns-then-not-own
-returns-then-not-own c = sound_bad_own _ _ (sym c.own_sound-own.ensures ∙ c.if-not-own.true)
-
-pub loop-i-init : goal.loop-i-init
+pub returns-then-own_sound : goal.returns-then-own_sound
 unfolding slotsb
-loop-i-init c = every_none _
+returns-then-own_sound c =
+    let s = c.args.state in
+    all_from_yields_List (λ (e : ℕ × Slot). slotb s.powered e.0 e.1) _ _ c.all.result c.all.ensures.ran (YieldsList-from_enumerate (YieldsList-from_slice s.endpoints cc) (cc)) (λ x b q k. search (rules, tests))
+    ∙ every_listed (slotb s.powered) fresh_slot s.endpoints 16 (cc)
+    ∙ sound_slots s c.args.events (sym c.own_sound.ensures ∙ c.if-own_sound.true)
 
-pub returns-then-not-good : goal.returns-then-not-good
-returns-then-not-good c = sound_bad_slot _ _ c.loop-i.i c.loop-i-test.true (sym c.slot_sound-good.ensures ∙ c.if-not-good.true)
-
-pub loop-i-preserved : goal.loop-i-preserved
-unfolding slotsb
-loop-i-preserved c =
-    let l = c.loop-i in
-    sym (every_step _ l.i true true (sym l.invariant) (sym (c.if-not-good.false) ∙ c.slot_sound-good.ensures))
-
-pub returns : goal.returns
-returns c =
-    let l = c.loop-i in
-    let e : l.i ≡ 16 = omega arith in
-    sound_all _ _ (rw e at l.invariant) (sym c.own_sound-own.ensures ∙ c.if-not-own.false)
+pub returns-else-own_sound : goal.returns-else-own_sound
+returns-else-own_sound c = c.if-own_sound.false ∙ sound_bad_own _ _ (sym c.own_sound.ensures ∙ c.if-own_sound.false)

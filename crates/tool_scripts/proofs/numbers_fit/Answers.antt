@@ -1,10 +1,7 @@
 -- Each number in turn: those that are left decide.
 use Rattle.std.proofs.Common.{sym, ap, ◌∙◌, not}
-use Rattle.tool_scripts.specs.NumbersLaws.{all_left, left_past, left_unfit, left_more, left_full, number_told}
+use Rattle.tool_scripts.specs.NumbersLaws.{left_past, left_unfit, left_more, left_full, number_told}
 use Rattle.tool_scripts.proofs.numbers_fit.Goals as goal
-
-pub loop-init : goal.loop-init
-loop-init c = all_left _ _
 
 pub returns-then-is_empty : goal.returns-then-is_empty
 returns-then-is_empty c = left_past c.loop.invariant (sym c.is_empty.ensures ∙ c.if-is_empty.true)

@@ -14,8 +14,8 @@ returns c =
     let a = c.args in
     let s = a.state.now in
     let e = a.endpoint in
-    let own = begin_own s.powered e.index e.incoming a.piece.address a.piece.length a.long a.unfit (slot_at s (slot_place e.index e.incoming)) in
-    let admitted = rw c.sound-good.ensures at (sym c.admit.ensures ∙ c.in_ok-admit.was) in
+    let own = begin_own s.powered e.index e.incoming a.piece.address a.piece.length a.faults.long a.faults.unfit (slot_at s (slot_place e.index e.incoming)) in
+    let admitted = rw c.new.ensures at (sym c.admit.ensures ∙ c.in_ok-admit.was) in
     (rw c.slot_place-i.ensures at c.slot_check.ensures)
     ∙ sym (first_passed (admitted_of a.room (soundb s a.events) s.awaited.next []) own _ admitted)
-    ∙ check_place a.room s a.events e.index e.incoming a.piece a.long a.unfit
+    ∙ check_place a.room s a.events e.index e.incoming a.piece a.faults.long a.faults.unfit

@@ -1,6 +1,6 @@
 -- `report`: the slot and the set are stored where they lie; where no slot has the number, nothing follows.
 use Rattle.std.proofs.Common.{◌≡◌, length, refl, ap, ◌∙◌}
-use Rattle.ops.specs.WroteLaws.{◌▹◌, none, same}
+use Rattle.ops.specs.ListsLaws.{◌▹◌, none, same}
 use Rattle.base.specs.EachLaws.{length_mapped}
 use Rattle.state.specs.Fresh.{slot_at}
 use Rattle.state.specs.Setters.{limit_of}
@@ -21,7 +21,7 @@ pub returns-then-i-ge16 : goal.returns-then-i-ge16
 unfolding report_state report_ops
 returns-then-i-ge16 c =
     let sixteen : length c.args.state.endpoints ≡ 16 = search length_mapped in
-    rw (no_slot c.args.state _ sixteen (rw c.slot_number-i.ensures at c.if-i-ge16.true)) (record { state = refl; list = c.chain_ack-acknowledged.ensures ▹ none _ _ })
+    rw (no_slot c.args.state _ sixteen (rw c.slot_number-i.ensures at c.if-i-ge16.true)) (record { state = refl; list = c.chain_ack.ensures ▹ none _ })
 
 pub returns : goal.returns
 unfolding report_state report_ops
@@ -33,5 +33,5 @@ returns c =
     let window = own (goal.at.returns c).After-window_of-window in
     record {
       state = rw (f.slot, f.wake, c.slot_number-i.ensures) (stored_after s (slot_number e.index e.incoming) e.incoming step);
-      list = c.chain_ack-acknowledged.ensures ▹ same (rw (window, c.slot_number-i.ensures) (list_after_lem s e.index e.incoming step)) f.list;
+      list = c.chain_ack.ensures ▹ same (rw (window, c.slot_number-i.ensures) (list_after_lem s e.index e.incoming step)) f.list;
     }

@@ -1,0 +1,14 @@
+pub mod Search
+pub mod SearchLaws
+pub mod Fields
+pub mod FieldsLaws
+pub mod Read
+pub mod ReadLaws
+pub mod NumbersLaws
+pub mod Words
+pub mod WordsLaws
+pub mod NamesLaws
+pub mod Text
+pub mod TextLaws
+pub mod Sums
+pub mod SumsLaws
