@@ -6,7 +6,7 @@ ghost use Rattle.ops.specs.Ops.{flat, list_numbers};
 ghost use Rattle.ops.specs.Lists.{Room, Adds};
 ghost use Rattle.ops.specs.Wrote.{Wrote};
 ghost use Rattle.state.specs.Refusals.{first_refusal};
-ghost use Rattle.state_call.specs.Turn.{admitted_of};
+ghost use Rattle.state_call.specs.Turn.{admitted_at};
 ghost use Rattle.bus_endpoint.specs.Endpoint.{isochronous_of, wanted, fits, ordered_slot, ordered_ops, order_wakes, made_slot, made_ops, obeyed_ops, obeyed_at};
 ghost use Rattle.bus_endpoint.specs.declared.Order.TheVariants.{Stall, Enable};
 
@@ -151,8 +151,8 @@ pub fn obey(
     order: Order,
     slot: Slot,
 ) -> Obeyed
-    ensures result { result ≡ obeyed_at (first_refusal (admitted_of (length ops.old) entry.good entry.awaited.next [])) powered endpoint.index endpoint.incoming order slot }
-    ensures list { Wrote ops.old 0 (obeyed_ops (first_refusal (admitted_of (length ops.old) entry.good entry.awaited.next [])) powered endpoint.index endpoint.incoming order slot) result.end ops.new }
+    ensures result { result ≡ obeyed_at (first_refusal (admitted_at (record { room = length ops.old; entry = entry }) [])) powered endpoint.index endpoint.incoming order slot }
+    ensures list { Wrote ops.old 0 (obeyed_ops (first_refusal (admitted_at (record { room = length ops.old; entry = entry }) [])) powered endpoint.index endpoint.incoming order slot) result.end ops.new }
 {
     let room = ops.len();
     match (ListEntry { room, entry }).admit() {

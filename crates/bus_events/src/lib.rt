@@ -5,7 +5,8 @@
 ghost use Rattle.std.specs.Prelude.{◌≡◌};
 ghost use Rattle.state.specs.Numbers.{check_number};
 ghost use Rattle.state.specs.Refusals.{first_refusal};
-ghost use Rattle.state_call.specs.Turn.{turn_of};
+ghost use Rattle.state_slots.specs.Waking.{no_wakes};
+ghost use Rattle.state_call.specs.Turn.{turn_at};
 ghost use Rattle.bus_events.specs.Raise.{raise_own, raise_conditions, raise_call};
 ghost use Rattle.bus_events.specs.Poll.{poll_call, poll_numbers, poll_says};
 
@@ -22,8 +23,24 @@ pub struct Pended<A> {
     pub wakes: Wakes,
 }
 
+impl<A> Pended<A> {
+    // Nobody is woken.
+    #[inline(always)]
+    fn quiet(events: Events, answer: Result<A, Refusal>) -> Pended<A>
+        ensures answer { result.answer ≡ answer }
+        ensures events { result.events ≡ events }
+        ensures wakes { result.wakes ≡ no_wakes }
+    {
+        Pended {
+            answer,
+            events,
+            wakes: no_wakes(),
+        }
+    }
+}
+
 fn raise_check(entry: Entry, event: u8) -> Result<(), Refusal>
-    ensures { result ≡ first_refusal (turn_of entry.good entry.awaited.next (raise_own event)) }
+    ensures { result ≡ first_refusal (turn_at entry (raise_own event)) }
 {
     entry.admit()?;
     Event::try_from(event)?;
@@ -37,19 +54,10 @@ pub fn raise(state: State, events: Events, event: u8) -> Pended<()>
     ensures number { check_number result.answer ≡ check_number (first_refusal (raise_conditions state events event)) }
 {
     let check = raise_check(Entry::new(&state, events), event);
-    let wakes = no_wakes();
     if let Err(refusal) = check {
-        return Pended {
-            answer: Err(refusal),
-            events,
-            wakes,
-        };
+        return Pended::quiet(events, Err(refusal));
     }
-    Pended {
-        answer: Ok(()),
-        events: raise_byte(events, event),
-        wakes,
-    }
+    Pended::quiet(raise_byte(events, event), Ok(()))
 }
 
 // The pending event of highest precedence, which is cleared.
@@ -60,18 +68,9 @@ pub fn poll(state: State, events: Events) -> Pended<Option<Event>>
     ensures numbers { poll_numbers result.answer ≡ poll_says state events }
 {
     let check = Entry::new(&state, events).admit();
-    let wakes = no_wakes();
     if let Err(refusal) = check {
-        return Pended {
-            answer: Err(refusal),
-            events,
-            wakes,
-        };
+        return Pended::quiet(events, Err(refusal));
     }
     let pending = next_pending(events);
-    Pended {
-        answer: Ok(pending),
-        events: without(events, pending),
-        wakes,
-    }
+    Pended::quiet(without(events, pending), Ok(pending))
 }

@@ -12,7 +12,7 @@ use ops::OpList;
 use state::{Events, State};
 use state_call::{ListEntry, Listed};
 use state_slots::reset;
-use state_slots::waking::{no_wakes, wake_all};
+use state_slots::waking::wake_all;
 
 // The registers of a device that is on are shut down.
 fn shut(list: &mut OpList<'_>, powered: bool)
@@ -34,12 +34,7 @@ pub fn power_off(ops: &mut [u32], mut state: State, events: Events) -> Listed<()
 {
     let check = ListEntry::new(ops.len(), &state, events).admit();
     if let Err(refusal) = check {
-        return Listed {
-            state,
-            answer: Err(refusal),
-            end: 0,
-            wakes: no_wakes(),
-        };
+        return Listed::quiet(state, Err(refusal));
     }
     let mut list = OpList::new(ops);
     shut(&mut list, state.powered);

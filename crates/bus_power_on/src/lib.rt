@@ -5,19 +5,19 @@ ghost use Rattle.std.specs.Prelude.{◌≡◌, length};
 ghost use Rattle.ops.specs.Wrote.{Wrote};
 ghost use Rattle.state.specs.Numbers.{check_number};
 ghost use Rattle.state.specs.Refusals.{first_refusal};
-ghost use Rattle.state_call.specs.Turn.{admitted_of};
+ghost use Rattle.state_call.specs.Turn.{admitted_at};
 ghost use Rattle.bus_power_on.specs.PowerOn.{on_own, on_conditions, power_on_call};
 
 use bus_reset::bus_reset;
 use ops::OpList;
 use state::refusals::refuse_if;
 use state::{Events, Refusal, State};
-use state_call::{Entry, ListEntry, Listed};
-use state_slots::waking::{no_wakes, wake_all};
+use state_call::{ListEntry, Listed};
+use state_slots::waking::wake_all;
 use state_sound::sound;
 
 fn on_check(lent: ListEntry, ep0_address: u32, revision: u32) -> Result<(), Refusal>
-    ensures { result ≡ first_refusal (admitted_of lent.room lent.entry.good lent.entry.awaited.next (on_own revision ep0_address)) }
+    ensures { result ≡ first_refusal (admitted_at lent (on_own revision ep0_address)) }
 {
     lent.admit()?;
     refuse_if(15 < revision, Refusal::OutOfRange)?;
@@ -32,20 +32,10 @@ pub fn power_on(ops: &mut [u32], state: State, events: Events, revision: u32) ->
     ensures wakes { result.wakes ≡ (power_on_call (length ops.old) state events revision).wakes }
     ensures number { check_number result.answer ≡ check_number (first_refusal (on_conditions (length ops.old) state events revision)) }
 {
-    // of values: lent to `ListEntry::new`, the state is copied once more
-    let entry = Entry {
-        good: sound(state, events),
-        awaited: state.awaited,
-    };
-    let room = ops.len();
-    let check = on_check(ListEntry { room, entry }, state.ep0_address, revision);
+    let lent = ListEntry::of(ops.len(), sound(state, events), state.awaited);
+    let check = on_check(lent, state.ep0_address, revision);
     if let Err(refusal) = check {
-        return Listed {
-            state,
-            answer: Err(refusal),
-            end: 0,
-            wakes: no_wakes(),
-        };
+        return Listed::quiet(state, Err(refusal));
     }
     if state.powered {
         return Listed {

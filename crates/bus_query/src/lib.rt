@@ -4,7 +4,7 @@
 ghost use Rattle.std.specs.Prelude.{◌≡◌, [], Ok, Err};
 ghost use Rattle.state.specs.Refusals.{first_refusal};
 ghost use Rattle.state_slots.specs.Waking.{no_wakes};
-ghost use Rattle.state_call.specs.Turn.{turn_of};
+ghost use Rattle.state_call.specs.Turn.{turn_at};
 ghost use Rattle.state_call.specs.Outcome.{or_else};
 ghost use Rattle.bus_query.specs.Query.{stalledb, enabledb, stalled_call, enabled_call, query_numbers, query_says};
 
@@ -21,7 +21,7 @@ pub struct QueryResult {
 
 #[tactic(auto, unfolding(state_call::specs::Outcome::or_else))]
 fn answer(entry: Entry, says: bool) -> QueryResult
-    ensures answer { result.answer ≡ or_else (first_refusal (turn_of entry.good entry.awaited.next [])) Err (Ok says) }
+    ensures answer { result.answer ≡ or_else (first_refusal (turn_at entry [])) Err (Ok says) }
     ensures wakes { result.wakes ≡ no_wakes }
 {
     QueryResult {

@@ -4,12 +4,22 @@
 ghost use Rattle.std.specs.Prelude.{◌≡◌};
 ghost use Rattle.ops.specs.Lists.{Room, Adds};
 ghost use Rattle.regs_device.specs.Device.{bus_reset_ops};
-ghost use Rattle.bus_reset.specs.Reset.{control_reset, bus_reset_state};
+ghost use Rattle.state.specs.Setters.{control_of, with_control};
+ghost use Rattle.bus_reset.specs.Reset.{ended_control, control_reset, bus_reset_state};
 
 use ops::OpList;
 use state::State;
 use state_slots::reset;
 use state_slots::waking::add_slot;
+
+// The stages of the control transfer in hand are over: its generation has passed, and no address waits.
+fn stages_over(state: &mut State)
+    ensures { state.new ≡ with_control state.old (ended_control (control_of state.old)) }
+{
+    state.control_generation = state.control_generation.wrapping_add(1);
+    state.address = None;
+    state.in_last = false;
+}
 
 // The control transfer starts over: its stages are cut, and who waits for one is to be woken.
 pub fn control_reset(mut state: State) -> State
@@ -17,9 +27,7 @@ pub fn control_reset(mut state: State) -> State
 {
     state.endpoints[0] = reset(state.endpoints[0], false, true);
     state.endpoints[1] = reset(state.endpoints[1], false, true);
-    state.control_generation = state.control_generation.wrapping_add(1); // the new SETUP's
-    state.address = None;
-    state.in_last = false;
+    stages_over(&mut state); // of the SETUP before
     state.wake = add_slot(state.wake, 0);
     state
 }
@@ -34,9 +42,7 @@ pub fn reset_state(mut state: State) -> State
     state.suspended = false;
     state.low_power = false;
     state.setup = None;
-    state.control_generation = state.control_generation.wrapping_add(1); // stages of before are over
-    state.address = None; // one that waits for its status stage
-    state.in_last = false;
+    stages_over(&mut state); // of before the reset
     state.wake = 65535;
     state
 }

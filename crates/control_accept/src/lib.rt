@@ -15,8 +15,7 @@ use control_stage::{Stage, admit_stage, answered, is_served, staged};
 use ops::OpList;
 use regs_control::{ep0_rx_ready, ep0_tx_ready};
 use state::{Events, State};
-use state_call::{Entry, ListEntry, Listed};
-use state_slots::waking::no_wakes;
+use state_call::{ListEntry, Listed};
 use state_sound::sound;
 
 // The registers of a status stage: an empty packet, and the next one taken.
@@ -41,12 +40,7 @@ fn status_stage(ops: &mut [u32], mut state: State, address: Option<u8>) -> Liste
     state.endpoints[1] = staged(state.endpoints[1]);
     state.in_last = true;
     state.address = address;
-    Listed {
-        state,
-        answer: Ok(Stage::Accepted),
-        end: list.end,
-        wakes: no_wakes(),
-    }
+    Listed::wrote(state, Ok(Stage::Accepted), list.end)
 }
 
 // The status stage that acknowledges a request.
@@ -57,14 +51,9 @@ pub fn accept(ops: &mut [u32], state: State, events: Events, generation: u32) ->
     ensures wakes { result.wakes ≡ (accept_call (length ops.old) state events generation).wakes }
     ensures numbers { stage_numbers result.answer ≡ stage_says (first_refusal (accept_conditions (length ops.old) state events generation)) (0 ∷ []) }
 {
-    // of values: lent to `ListEntry::new`, the state is copied once more
-    let entry = Entry {
-        good: sound(state, events),
-        awaited: state.awaited,
-    };
-    let room = ops.len();
+    let lent = ListEntry::of(ops.len(), sound(state, events), state.awaited);
     let check = admit_stage(
-        ListEntry { room, entry },
+        lent,
         !is_served(state.powered, state.control_generation, generation),
     );
     if let Err(refusal) = check {
@@ -88,14 +77,9 @@ pub fn accept_address(
     ensures numbers { stage_numbers result.answer ≡ stage_says (first_refusal (address_conditions (length ops.old) state events generation address)) (cond (leb address 127) (0 ∷ []) []) }
 {
     let known = address <= 127;
-    // of values: lent to `ListEntry::new`, the state is copied once more
-    let entry = Entry {
-        good: sound(state, events),
-        awaited: state.awaited,
-    };
-    let room = ops.len();
+    let lent = ListEntry::of(ops.len(), sound(state, events), state.awaited);
     let check = admit_stage(
-        ListEntry { room, entry },
+        lent,
         known & !is_served(state.powered, state.control_generation, generation),
     );
     if let Err(refusal) = check {

@@ -5,7 +5,7 @@ ghost use Rattle.std.specs.Prelude.{◌≡◌, [], ◌∷◌, not, ltb, length};
 ghost use Rattle.state.specs.Refusals.{◌if◌, first_refusal};
 ghost use Rattle.ops.specs.Wrote.{Wrote};
 ghost use Rattle.state.specs.declared.Refusal.TheVariants.{TooLong, Disabled, UnfitBuffer};
-ghost use Rattle.state_call.specs.Turn.{admitted_of};
+ghost use Rattle.state_call.specs.Turn.{admitted_at};
 ghost use Rattle.state_call.specs.Outcome.{front};
 ghost use Rattle.control_stage.specs.Stage.{ep0_unfit, stage_numbers, stage_says};
 ghost use Rattle.control_in.specs.DataIn.{next_sequence, data_in_conditions, data_in_call};
@@ -17,7 +17,6 @@ use regs_control::ep0_tx_ready;
 use state::refusals::refuse_if;
 use state::{EP0_SIZE, Events, Refusal, State};
 use state_call::{ListEntry, Listed};
-use state_slots::waking::no_wakes;
 
 // The sequence number of a data packet: 0 of the first, then one more than the last report gave, modulo 32.
 fn next_sequence(first: bool, previous: u8) -> u32
@@ -31,7 +30,7 @@ fn next_sequence(first: bool, previous: u8) -> u32
 
 // What a packet is refused by: its length, its generation, and EP0's buffer.
 fn packet_check(lent: ListEntry, size: usize, served: bool, unfit: bool) -> Result<(), Refusal>
-    ensures { result ≡ first_refusal (admitted_of lent.room lent.entry.good lent.entry.awaited.next (TooLong if ltb 512 size ∷ Disabled if not served ∷ UnfitBuffer if unfit ∷ [])) }
+    ensures { result ≡ first_refusal (admitted_at lent (TooLong if ltb 512 size ∷ Disabled if not served ∷ UnfitBuffer if unfit ∷ [])) }
 {
     lent.admit()?;
     refuse_if(size > EP0_SIZE as usize, Refusal::TooLong)?;
@@ -71,10 +70,5 @@ pub fn data_in(
     ep0_tx_ready(&mut list, sequence, length as u32);
     state.endpoints[1] = staged(state.endpoints[1]);
     state.in_last = last;
-    Listed {
-        state,
-        answer: Ok(Stage::Accepted),
-        end: list.end,
-        wakes: no_wakes(),
-    }
+    Listed::wrote(state, Ok(Stage::Accepted), list.end)
 }

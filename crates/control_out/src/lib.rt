@@ -12,7 +12,6 @@ use ops::OpList;
 use regs_control::ep0_rx_ready;
 use state::{Events, State};
 use state_call::{ListEntry, Listed};
-use state_slots::waking::no_wakes;
 
 // Takes the next packet of a data stage from the host.
 pub fn data_out(ops: &mut [u32], mut state: State, events: Events, generation: u32) -> Listed<Stage>
@@ -33,10 +32,5 @@ pub fn data_out(ops: &mut [u32], mut state: State, events: Events, generation: u
     let mut list = OpList::new(ops);
     ep0_rx_ready(&mut list);
     state.endpoints[0] = staged(state.endpoints[0]);
-    Listed {
-        state,
-        answer: Ok(Stage::Accepted),
-        end: list.end,
-        wakes: no_wakes(),
-    }
+    Listed::wrote(state, Ok(Stage::Accepted), list.end)
 }

@@ -11,8 +11,7 @@ use control_stage::{Stage, answered, is_served};
 use ops::OpList;
 use regs_control::ep0_stall;
 use state::{Events, State};
-use state_call::{Entry, ListEntry, Listed};
-use state_slots::waking::no_wakes;
+use state_call::{ListEntry, Listed};
 use state_sound::sound;
 
 // Both directions answer STALL until the next SETUP.
@@ -23,13 +22,8 @@ pub fn reject(ops: &mut [u32], state: State, events: Events, generation: u32) ->
     ensures wakes { result.wakes ≡ (reject_call (length ops.old) state events generation).wakes }
     ensures numbers { stage_numbers result.answer ≡ stage_says (first_refusal (reject_conditions (length ops.old) state events)) (cond (servedb state generation) (0 ∷ []) []) }
 {
-    // of values: lent to `ListEntry::new`, the state is copied once more
-    let entry = Entry {
-        good: sound(state, events),
-        awaited: state.awaited,
-    };
-    let room = ops.len();
-    let check = ListEntry { room, entry }.admit();
+    let lent = ListEntry::of(ops.len(), sound(state, events), state.awaited);
+    let check = lent.admit();
     if let Err(refusal) = check {
         return answered(state, Err(refusal));
     }
@@ -38,10 +32,5 @@ pub fn reject(ops: &mut [u32], state: State, events: Events, generation: u32) ->
     }
     let mut list = OpList::new(ops);
     ep0_stall(&mut list);
-    Listed {
-        state,
-        answer: Ok(Stage::Accepted),
-        end: list.end,
-        wakes: no_wakes(),
-    }
+    Listed::wrote(state, Ok(Stage::Accepted), list.end)
 }

@@ -6,7 +6,6 @@ ghost use Rattle.control_setup.specs.Setup.{fetched, setup_call, setup_numbers, 
 
 use state::{Events, Setup, State};
 use state_call::{Answered, Entry};
-use state_slots::waking::no_wakes;
 
 // A SETUP's eight bytes, and the generation that the stages of their transfer are to name.
 #[derive(Clone, Copy)]
@@ -32,18 +31,10 @@ pub fn setup(mut state: State, events: Events) -> Answered<Option<Fetched>>
     ensures numbers { setup_numbers result.answer ≡ setup_says state events }
 {
     let check = Entry::new(&state, events).admit();
-    let wakes = no_wakes();
     if let Err(refusal) = check {
-        return Answered {
-            state,
-            answer: Err(refusal),
-            wakes,
-        };
+        return Answered::quiet(state, Err(refusal));
     }
     let waiting = state.setup.take();
-    Answered {
-        state,
-        answer: Ok(fetch(waiting, state.control_generation)),
-        wakes,
-    }
+    let fetched = fetch(waiting, state.control_generation);
+    Answered::quiet(state, Ok(fetched))
 }

@@ -5,13 +5,12 @@ ghost use Rattle.std.specs.Prelude.{◌≡◌, ◌&&◌, [], ◌∷◌, eqb};
 ghost use Rattle.state.specs.declared.Refusal.TheVariants.{Disabled};
 ghost use Rattle.state.specs.Refusals.{◌if◌, first_refusal};
 ghost use Rattle.state_slots.specs.Waking.{no_wakes};
-ghost use Rattle.state_call.specs.Turn.{admitted_of};
+ghost use Rattle.state_call.specs.Turn.{admitted_at};
 ghost use Rattle.control_stage.specs.Stage.{ep0_unfit, staged_slot};
 
 use state::refusals::refuse_if;
 use state::{EP0_SIZE, Phase, Refusal, Slot, State};
 use state_call::{ListEntry, Listed};
-use state_slots::waking::no_wakes;
 
 // What a stage that isn't refused comes to. `Unanswered`: document 01 has no number for it.
 #[derive(Clone, Copy, PartialEq, Eq)]
@@ -47,7 +46,7 @@ pub fn staged(slot: Slot) -> Slot
 
 // What every call with a list is refused by, and then 22: `due` where the stage isn't served.
 pub fn admit_stage(lent: ListEntry, due: bool) -> Result<(), Refusal>
-    ensures { result ≡ first_refusal (admitted_of lent.room lent.entry.good lent.entry.awaited.next (Disabled if due ∷ [])) }
+    ensures { result ≡ first_refusal (admitted_at lent (Disabled if due ∷ [])) }
 {
     lent.admit()?;
     refuse_if(due, Refusal::Disabled)
@@ -60,10 +59,5 @@ pub fn answered(state: State, answer: Result<Stage, Refusal>) -> Listed<Stage>
     ensures end { result.end ≡ 0 }
     ensures wakes { result.wakes ≡ no_wakes }
 {
-    Listed {
-        state,
-        answer,
-        end: 0,
-        wakes: no_wakes(),
-    }
+    Listed::quiet(state, answer)
 }

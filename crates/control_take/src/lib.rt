@@ -4,7 +4,7 @@
 ghost use Rattle.std.specs.Prelude.{◌≡◌, not, [], ◌∷◌};
 ghost use Rattle.state.specs.Refusals.{◌if◌, first_refusal};
 ghost use Rattle.state.specs.declared.Refusal.TheVariants.{Disabled, UnfitBuffer};
-ghost use Rattle.state_call.specs.Turn.{turn_of};
+ghost use Rattle.state_call.specs.Turn.{turn_at};
 ghost use Rattle.state_slots.specs.Waking.{no_wakes};
 ghost use Rattle.transfer_take.specs.Take.{take_numbers};
 ghost use Rattle.control_take.specs.Take.{doneb, idle_slot, take_in_call, take_in_says};
@@ -13,7 +13,6 @@ use control_stage::is_served;
 use state::refusals::refuse_if;
 use state::{Events, Phase, Refusal, Slot, State};
 use state_call::{Answered, Entry};
-use state_slots::waking::no_wakes;
 
 pub fn is_done(phase: Phase) -> bool
     ensures { result ≡ doneb phase }
@@ -36,16 +35,12 @@ pub fn answered(state: State, answer: Result<Option<u32>, Refusal>) -> Answered<
     ensures state { result.state ≡ state }
     ensures wakes { result.wakes ≡ no_wakes }
 {
-    Answered {
-        state,
-        answer,
-        wakes: no_wakes(),
-    }
+    Answered::quiet(state, answer)
 }
 
 // What a stage of endpoint 0 is refused by: its generation, and EP0's buffer where it is lent.
 pub fn stage_check(entry: Entry, served: bool, unfit: bool) -> Result<(), Refusal>
-    ensures { result ≡ first_refusal (turn_of entry.good entry.awaited.next (Disabled if not served ∷ UnfitBuffer if unfit ∷ [])) }
+    ensures { result ≡ first_refusal (turn_at entry (Disabled if not served ∷ UnfitBuffer if unfit ∷ [])) }
 {
     entry.admit()?;
     refuse_if(!served, Refusal::Disabled)?;

@@ -4,7 +4,7 @@
 ghost use Rattle.std.specs.Prelude.{◌≡◌};
 ghost use Rattle.state_sound.specs.Sound.{driver_soundb, configb, memoryb, allocationsb};
 
-use state::{Driver, EndpointConfig};
+use state::{Driver, EP0_SIZE, EndpointConfig};
 use state_sound::{config_fits, in_ram, is_aligned};
 
 // Whether what is allocated for slot i fits it.
@@ -30,9 +30,9 @@ fn memory_sound(memory: u32, capacity: u32, used: u32) -> bool
     ensures { result ≡ memoryb memory capacity used }
 {
     in_ram(memory, capacity)
-        && 512 <= capacity
+        && EP0_SIZE <= capacity
         && is_aligned(memory)
-        && 512 <= used
+        && EP0_SIZE <= used
         && used <= capacity
 }
 

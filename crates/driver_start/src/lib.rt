@@ -5,13 +5,14 @@ ghost use Rattle.std.specs.Prelude.{◌≡◌};
 ghost use Rattle.state.specs.Numbers.{check_number};
 ghost use Rattle.state.specs.Refusals.{first_refusal};
 ghost use Rattle.state_slots.specs.Slots.{off_slot};
-ghost use Rattle.state_call.specs.Turn.{turn_of};
+ghost use Rattle.state_call.specs.Turn.{turn_at};
 ghost use Rattle.driver_start.specs.Start.{configured_slot, start_own, start_conditions, start_call};
 
 use driver_sound::driver_sound;
 use state::refusals::refuse_if;
-use state::{Driver, EP0_SIZE, EndpointConfig, Events, POWER, Refusal, Slot, State, Wakes};
+use state::{Driver, EP0_SIZE, EndpointConfig, Events, Refusal, Slot, State, Wakes};
 use state_call::Entry;
+use state_events::Event;
 use state_slots::reset;
 use state_slots::waking::no_wakes;
 use state_sound::sound;
@@ -35,14 +36,14 @@ fn start_slot(i: usize, slot: Slot, config: Option<EndpointConfig>) -> Slot
 }
 
 fn start_check(entry: Entry, size: u16) -> Result<(), Refusal>
-    ensures { result ≡ first_refusal (turn_of entry.good entry.awaited.next (start_own size)) }
+    ensures { result ≡ first_refusal (turn_at entry (start_own size)) }
 {
     entry.admit()?;
     refuse_if(size as u32 != EP0_SIZE, Refusal::ControlPacketSize)
 }
 
 // The state takes over the driver's layout and memory. Transfers in hand are cut; the device is off until it is powered.
-#[tactic(auto, using(crate::specs::StartLaws::started_none, crate::specs::StartLaws::started_next), unfolding(crate::specs::Start::start_call, state_call::specs::Outcome::or_else))]
+#[tactic(auto, unfolding(crate::specs::Start::start_call, state_call::specs::Outcome::or_else))]
 pub fn start(
     mut state: State,
     events: Events,
@@ -69,8 +70,8 @@ pub fn start(
             wakes,
         };
     }
-    for i in 0..16 {
-        state.endpoints[i] = start_slot(i, state.endpoints[i], driver.endpoints[i]);
+    for (i, slot) in state.endpoints.iter_mut().enumerate() {
+        *slot = start_slot(i, *slot, driver.endpoints[i]);
     }
     state.ep0_address = driver.memory;
     state.powered = false;
@@ -78,7 +79,9 @@ pub fn start(
     StartResult {
         state,
         answer: Ok(()),
-        events: Events { events: POWER },
+        events: Events {
+            events: u8::from(Event::PowerDetected),
+        },
         wakes,
     }
 }

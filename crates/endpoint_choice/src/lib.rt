@@ -99,7 +99,10 @@ pub fn closes(slot: Slot, asked: Asked) -> bool
 pub fn is_longer(slot: Slot, asked: Asked) -> bool
     ensures { result ≡ longer slot asked }
 {
-    asked.single && slot.config.is_some() && (slot_size(slot) as usize) < asked.length
+    asked.single
+        && slot
+            .config
+            .is_some_and(|config| (config.max_packet_size as usize) < asked.length)
 }
 
 // What was lent isn't the endpoint's own buffer.

@@ -13,7 +13,6 @@ use endpoint_answer::Move;
 use endpoint_plan::Plan;
 use state::{EndpointAddress, Events, State};
 use state_call::Listed;
-use state_slots::waking::no_wakes;
 use transfer_begin::begin_check;
 
 // Nothing is left to send: only the refusals of a begin are asked.
@@ -36,10 +35,5 @@ pub fn nothing(
         incoming: true,
     };
     let check = begin_check(room, &state, events, endpoint, plan.piece, plan.faults);
-    Listed {
-        state,
-        answer: check.and(Ok(Move::Ended(total))),
-        end: 0,
-        wakes: no_wakes(),
-    }
+    Listed::quiet(state, check.and(Ok(Move::Ended(total))))
 }

@@ -2,51 +2,20 @@
 ghost use Rattle.std.specs.Prelude.{◌≡◌};
 ghost use Rattle.state.specs.Fresh.{fresh_slot, nothing_awaited, fresh_state};
 
-use super::{Awaited, LinkFlags, LinkState, Phase, Slot, State, Tally, Transfer};
+use super::{Awaited, Slot, State};
 
 // A slot that nothing was done to.
 pub fn fresh_slot() -> Slot
     ensures { result ≡ fresh_slot }
 {
-    Slot {
-        enabled: false,
-        stalled: false,
-        phase: Phase::Idle,
-        config: None,
-        transfer: Transfer {
-            address: 0,
-            length: 0,
-            progress: 0,
-            zlp: false,
-        },
-        tally: Tally {
-            begun: 0,
-            finished: 0,
-            cut: 0,
-            bytes: 0,
-        },
-    }
+    Slot::default()
 }
 
 // Nothing is awaited, nothing remembered.
 pub fn nothing_awaited() -> Awaited
     ensures { result ≡ nothing_awaited }
 {
-    Awaited {
-        next: None,
-        flags: LinkFlags {
-            link_if_tx_lmp: false,
-            link_if_rx_lmp: false,
-            link_if_rx_lmp_tout: false,
-            link_if_state_chg: false,
-            link_if_warm_rst: false,
-            link_if_term_pres: false,
-            link_if_rx_set_fc: false,
-        },
-        link_state: LinkState::U0,
-        endpoint: 0,
-        packets: 0,
-    }
+    Awaited::default()
 }
 
 // The state before the first start.

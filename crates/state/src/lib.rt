@@ -40,15 +40,16 @@ pub struct EndpointConfig {
     pub buffer: Buffer,
 }
 
-#[derive(Clone, Copy, PartialEq, Eq)]
+#[derive(Clone, Copy, Default, PartialEq, Eq)]
 pub enum Phase {
+    #[default]
     Idle,
     Busy,
     Done,
 }
 
 // `progress`: of IN the bytes handed to the controller, of OUT those received. `zlp`: an empty packet is to follow.
-#[derive(Clone, Copy)]
+#[derive(Clone, Copy, Default)]
 pub struct Transfer {
     pub address: u32,
     pub length: u32,
@@ -57,7 +58,7 @@ pub struct Transfer {
 }
 
 // Transfers of a data slot, and their bytes, modulo 2^32.
-#[derive(Clone, Copy)]
+#[derive(Clone, Copy, Default)]
 pub struct Tally {
     pub begun: u32,
     pub finished: u32,
@@ -66,7 +67,7 @@ pub struct Tally {
 }
 
 // One direction of an endpoint; its number is 2 * index, and 1 more for IN.
-#[derive(Clone, Copy)]
+#[derive(Clone, Copy, Default)]
 pub struct Slot {
     pub enabled: bool,
     pub stalled: bool,
@@ -80,8 +81,9 @@ pub struct Slot {
 pub type Setup = [u8; 8];
 
 // States of the link that the driver tells apart.
-#[derive(Clone, Copy, PartialEq, Eq)]
+#[derive(Clone, Copy, Default, PartialEq, Eq)]
 pub enum LinkState {
+    #[default]
     U0,
     U1,
     U2,
@@ -94,7 +96,7 @@ pub enum LinkState {
 }
 
 // The flags of `link_int_flag`.
-#[derive(Clone, Copy)]
+#[derive(Clone, Copy, Default)]
 pub struct LinkFlags {
     pub link_if_tx_lmp: bool,
     pub link_if_rx_lmp: bool,
@@ -113,7 +115,7 @@ pub struct LinkStatus {
 }
 
 // The register `status`.
-#[derive(Clone, Copy)]
+#[derive(Clone, Copy, Default)]
 pub struct TransferStatus {
     pub udif_setup: bool,
     pub udif_status: bool,
@@ -144,23 +146,23 @@ pub enum Reading {
 // A reading that an interrupt awaits. The link status is asked at up to three places.
 #[derive(Clone, Copy, PartialEq, Eq)]
 pub enum Awaiting {
-    LinkFlags,
-    LinkStatus,
-    PortCapability,
-    TermPresStatus,
-    MessageWord,
-    WarmResetStatus,
-    TransferStatus,
-    SetupBytes,
-    Ep0Length,
-    Ep0Sequence,
-    ChainPackets,
-    LastLength,
+    LinkFlags = 1,
+    LinkStatus = 2,
+    PortCapability = 3,
+    TermPresStatus = 4,
+    MessageWord = 5,
+    WarmResetStatus = 6,
+    TransferStatus = 7,
+    SetupBytes = 8,
+    Ep0Length = 9,
+    Ep0Sequence = 10,
+    ChainPackets = 11,
+    LastLength = 12,
 }
 
 // What an interrupt awaits next, and what it remembers of earlier readings: the link's flags and state, and of a chain
 // report the endpoint and its packets.
-#[derive(Clone, Copy)]
+#[derive(Clone, Copy, Default)]
 pub struct Awaited {
     pub next: Option<Awaiting>,
     pub flags: LinkFlags,
@@ -241,22 +243,22 @@ pub struct EndpointRequest {
 // Why a call is refused. `u32::from` gives its number.
 #[derive(Clone, Copy, PartialEq, Eq)]
 pub enum Refusal {
-    MemoryOutsideRam,
-    MemoryTooSmall,
-    UnfitPacketSize,
-    UnfitBurst,
-    WrongDirection,
-    ControlPacketSize,
-    NoDataEndpoint,
-    UnfitBuffer,
-    TooLong,
-    ListTooShort,
-    OutOfRange,
-    NoFreeEndpoint,
-    NoRoom,
-    Disabled,
-    InHand,
-    OutOfTurn,
-    NotSuspended,
-    Unsound,
+    MemoryOutsideRam = 1,
+    MemoryTooSmall = 2,
+    UnfitPacketSize = 3,
+    UnfitBurst = 4,
+    WrongDirection = 5,
+    ControlPacketSize = 6,
+    NoDataEndpoint = 7,
+    UnfitBuffer = 8,
+    TooLong = 9,
+    ListTooShort = 10,
+    OutOfRange = 11,
+    NoFreeEndpoint = 20,
+    NoRoom = 21,
+    Disabled = 22,
+    InHand = 23,
+    OutOfTurn = 24,
+    NotSuspended = 25,
+    Unsound = 26,
 }

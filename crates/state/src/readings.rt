@@ -29,18 +29,7 @@ pub fn awaiting_number(next: Option<Awaiting>) -> u32
 {
     match next {
         None => 0,
-        Some(Awaiting::LinkFlags) => 1,
-        Some(Awaiting::LinkStatus) => 2,
-        Some(Awaiting::PortCapability) => 3,
-        Some(Awaiting::TermPresStatus) => 4,
-        Some(Awaiting::MessageWord) => 5,
-        Some(Awaiting::WarmResetStatus) => 6,
-        Some(Awaiting::TransferStatus) => 7,
-        Some(Awaiting::SetupBytes) => 8,
-        Some(Awaiting::Ep0Length) => 9,
-        Some(Awaiting::Ep0Sequence) => 10,
-        Some(Awaiting::ChainPackets) => 11,
-        Some(Awaiting::LastLength) => 12,
+        Some(awaited) => awaited as u32,
     }
 }
 
@@ -54,5 +43,5 @@ pub fn is_awaiting(next: Option<Awaiting>) -> bool
 pub fn is_chain_reading(next: Option<Awaiting>) -> bool
     ensures { result ≡ chain_readingb next }
 {
-    11 <= awaiting_number(next)
+    matches!(next, Some(Awaiting::ChainPackets | Awaiting::LastLength))
 }

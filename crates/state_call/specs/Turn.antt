@@ -9,6 +9,8 @@ use Rattle.state.specs.declared.Refusal.TheVariants.{ListTooShort, Unsound, OutO
 use Rattle.state.specs.Awaiting.{awaitingb}
 use Rattle.state.specs.Refusals.{Condition, ◌if◌}
 use Rattle.state_sound.specs.Sound.{soundb}
+use Rattle.state_call.specs.declared.Entry.{Entry}
+use Rattle.state_call.specs.declared.ListEntry.{ListEntry}
 
 -- 26 and 24, by whether everything is sound and by what is awaited
 abbrev pub turn_of : Bool → Option Awaiting → List Condition → List Condition
@@ -17,6 +19,13 @@ turn_of good next own = Unsound if not good ∷ OutOfTurn if awaitingb next ∷ 
 -- 10 before them, of a list with room for so many numbers
 abbrev pub admitted_of : ℕ → Bool → Option Awaiting → List Condition → List Condition
 admitted_of room good next own = ListTooShort if ltb room list_numbers ∷ turn_of good next own
+
+-- the two by what a call has looked at
+abbrev pub turn_at : Entry → List Condition → List Condition
+turn_at entry own = turn_of entry.good entry.awaited.next own
+
+abbrev pub admitted_at : ListEntry → List Condition → List Condition
+admitted_at lent own = admitted_of lent.room lent.entry.good lent.entry.awaited.next own
 
 -- a call without a list, and one with
 abbrev pub in_turn : State → Events → List Condition → List Condition

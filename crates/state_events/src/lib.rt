@@ -1,7 +1,8 @@
 // The byte of pending events (reference: `raise` and `poll` of device.rs).
 #![tactic(auto)]
 
-ghost use Rattle.std.specs.Prelude.{◌≡◌};
+ghost use Rattle.std.specs.Prelude.{◌≡◌, option_map};
+ghost use Rattle.std.specs.List.{find};
 ghost use Rattle.state_events.specs.Bytes.{pendingb, events_soundb};
 ghost use Rattle.state_events.specs.Events.{event_number, event_of, with_event, without_event, only_reset, raised, raise_byte, raise_event, next_pending, without_pending};
 
@@ -56,8 +57,8 @@ fn is_pending(events: u8, event: Event) -> bool
 pub fn events_sound(events: Events) -> bool
     ensures { result ≡ events_soundb events.events }
 {
-    let suspend = events.events / 2 % 2 == 1;
-    let resume = events.events / 4 % 2 == 1;
+    let suspend = is_pending(events.events, Event::Suspend);
+    let resume = is_pending(events.events, Event::Resume);
     !(suspend & resume)
 }
 
@@ -123,23 +124,24 @@ pub fn raise_event(events: Events, event: Event) -> Events
     }
 }
 
+// The first of some events that is pending.
+fn first_pending(events: u8, precedence: &[Event]) -> Option<&Event>
+    ensures { option_map (λ event. event.now) result ≡ find (λ event. pendingb events (event_number event)) precedence.now }
+{
+    precedence.iter().find(|event| is_pending(events, **event))
+}
+
 // The pending event of highest precedence.
 pub fn next_pending(events: Events) -> Option<Event>
     ensures { result ≡ next_pending events.events }
 {
-    if is_pending(events.events, Event::PowerDetected) {
-        return Some(Event::PowerDetected);
-    }
-    if is_pending(events.events, Event::Reset) {
-        return Some(Event::Reset);
-    }
-    if is_pending(events.events, Event::Suspend) {
-        return Some(Event::Suspend);
-    }
-    if is_pending(events.events, Event::Resume) {
-        return Some(Event::Resume);
-    }
-    None
+    let precedence = [
+        Event::PowerDetected,
+        Event::Reset,
+        Event::Suspend,
+        Event::Resume,
+    ];
+    first_pending(events.events, &precedence).copied()
 }
 
 // The events without the one that was handed out.

@@ -7,9 +7,9 @@ use super::is_busy;
 use super::waking::add_slot;
 use state::{Events, Phase, Slot, Transfer, Wakes};
 
-// A slot, and the slots that the end of the interrupt wakes.
+// What a report leaves of its slot, and the slots that the end of the interrupt wakes.
 #[derive(Clone, Copy)]
-pub struct Completed {
+pub struct Reported {
     pub slot: Slot,
     pub wake: u16,
 }
@@ -42,17 +42,17 @@ pub fn done(slot: Slot) -> Slot
 }
 
 // Slot i completed; one that isn't busy stays as it is.
-pub fn complete(i: usize, slot: Slot, wake: u16) -> Completed
+pub fn complete(i: usize, slot: Slot, wake: u16) -> Reported
     ensures slot { result.slot ≡ completed_slot slot }
     ensures wake { result.wake ≡ completed_wake i slot wake }
 {
     if is_busy(slot.phase) {
-        return Completed {
+        return Reported {
             slot: done(slot),
             wake: add_slot(wake, waiter_of(i)),
         };
     }
-    Completed { slot, wake }
+    Reported { slot, wake }
 }
 
 // Whom the end of an interrupt wakes; the set is emptied then.

@@ -57,13 +57,11 @@ pub fn slot_size(slot: Slot) -> u16
 pub fn own_buffer(slot: Slot) -> Buffer
     ensures { result ≡ own_buffer slot }
 {
-    match slot.config {
-        Some(config) => config.buffer,
-        None => Buffer {
-            address: 0,
-            size: 0,
-        },
-    }
+    let empty = Buffer {
+        address: 0,
+        size: 0,
+    };
+    slot.config.map_or(empty, |config| config.buffer)
 }
 
 // What a cut transfer adds to its tally; nothing where `cut` is clear.

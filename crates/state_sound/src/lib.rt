@@ -6,8 +6,8 @@ ghost use Rattle.state_sound.specs.Clauses.{in_ram, aligned, multiple, whole_pac
 ghost use Rattle.state_sound.specs.Sound.{soundb, configb, outb, busy_clausesb, slotb, awaitedb, ownb};
 
 use state::readings::{is_awaiting, is_chain_reading};
-use state::{Awaited, EndpointConfig, Events, Slot, State};
-use state_slots::{is_busy, is_idle, slot_number, slot_size};
+use state::{Awaited, EP0_SIZE, EndpointConfig, Events, Slot, State};
+use state_slots::{is_busy, is_data_endpoint, is_idle, slot_number, slot_size};
 
 // Whether all of it lies in RAM. The sum is taken in 64 bits, so that it can't wrap.
 pub fn in_ram(address: u32, length: u32) -> bool
@@ -125,8 +125,7 @@ fn awaited_sound(powered: bool, awaited: Awaited) -> bool
 {
     let awaiting = is_awaiting(awaited.next);
     let chain = is_chain_reading(awaited.next);
-    let e = awaited.endpoint;
-    (!awaiting | powered) & (!chain | ((1 <= e) & (e <= 7)))
+    (!awaiting | powered) & (!chain | is_data_endpoint(awaited.endpoint))
 }
 
 // The device address that waits has 7 bits.
@@ -141,7 +140,7 @@ fn address_fits(address: Option<u8>) -> bool
 fn own_sound(state: State, events: Events) -> bool
     ensures { result ≡ ownb state events }
 {
-    let inside = in_ram(state.ep0_address, 512);
+    let inside = in_ram(state.ep0_address, EP0_SIZE);
     let apart = state_events::events_sound(events);
     let asked = awaited_sound(state.powered, state.awaited);
     let fits = address_fits(state.address);

@@ -2,7 +2,5 @@
 #![tactic(auto)]
 
 fn main(rt: HostRuntime) {
-    let mut list = [0u32; 640];
-    let state = tool_tally::run(&mut list);
-    tool_tally_print::tallies(&rt, state);
+    tool_tally_print::tallies(&rt, tool_tally::run());
 }

@@ -1,25 +1,29 @@
 // A transfer begun.
 #![tactic(auto)]
 
+ghost use Rattle.std.specs.Prelude.{◌≡◌, false};
+ghost use Rattle.std.proofs.lemmas.List.Edits.{sets};
+ghost use Rattle.ops.specs.Ops.{flat};
+ghost use Rattle.tool_arguments.specs.Arguments.{byte_at, flag_at};
+ghost use Rattle.transfer_begin.specs.Begin.{begin_call};
+ghost use Rattle.tool_calls_begin.specs.Piece.{piece_of};
+
 use tool_arguments::endpoint;
 use tool_scripts::{flag, number};
 use transfer_piece::{Faults, Piece};
 use world::World;
 
-pub fn begin(rt: &impl Print, list: &mut [u32; 640], world: World, line: &[u8]) -> World {
+pub fn begin(rt: &impl Print, list: &mut [u32; 640], world: World, line: &[u8]) -> World
+    ensures world { result ≡ record world { state = (begin_call 640 world.state world.events (byte_at line.now 1) (flag_at line.now 0) (piece_of line.now) false false).state } }
+    ensures list { list.new ≡ sets list.old 0 (flat (begin_call 640 world.state world.events (byte_at line.now 1) (flag_at line.now 0) (piece_of line.now) false false).ops) }
+{
     let piece = Piece {
         address: number(line, 2),
         length: number(line, 3),
         zlp: flag(line, 4),
     };
     let at = endpoint(line);
-    let faults = Faults {
-        long: false,
-        unfit: false,
-    };
+    let faults = Faults::default();
     let begun = transfer_begin::begin(list, world.state, world.events, at, piece, faults);
-    tool_print::operations(rt, list, begun.end);
-    let (number, value) = tool_answers::numbers(begun.answer.map(|()| 0));
-    tool_answers::answer(rt, number, value, begun.wakes);
-    world.with_state(begun.state)
+    tool_called::numberless(rt, list, world, begun)
 }

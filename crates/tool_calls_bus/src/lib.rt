@@ -2,6 +2,9 @@
 #![tactic(auto)]
 
 ghost use Rattle.std.specs.Prelude.{◌≡◌, cond};
+ghost use Rattle.std.proofs.lemmas.List.Edits.{sets};
+ghost use Rattle.ops.specs.Ops.{flat};
+ghost use Rattle.regs_device.specs.Device.{bus_reset_ops};
 ghost use Rattle.tool_arguments.specs.Arguments.{byte_at};
 ghost use Rattle.bus_events.specs.Poll.{poll_call};
 ghost use Rattle.bus_events.specs.Raise.{raise_call};
@@ -16,8 +19,7 @@ pub fn raise(rt: &impl Print, world: World, line: &[u8]) -> World
     ensures { result ≡ record world { events = (raise_call world.state world.events (byte_at line.now 0)).events } }
 {
     let raised = bus_events::raise(world.state, world.events, byte(line, 0));
-    let (number, value) = tool_answers::numbers(raised.answer.map(|()| 0));
-    tool_answers::answer(rt, number, value, raised.wakes);
+    tool_answers::answer(rt, raised.answer.map(|()| 0), raised.wakes);
     world.with_events(raised.events)
 }
 
@@ -25,8 +27,7 @@ pub fn poll(rt: &impl Print, world: World) -> World
     ensures { result ≡ record world { events = (poll_call world.state world.events).events } }
 {
     let polled = bus_events::poll(world.state, world.events);
-    let (number, value) = tool_answers::numbers(polled.answer.map(event_number));
-    tool_answers::answer(rt, number, value, polled.wakes);
+    tool_answers::answer(rt, polled.answer.map(event_number), polled.wakes);
     world.with_events(polled.events)
 }
 
@@ -37,7 +38,8 @@ fn event_number(event: Option<Event>) -> u32 {
 
 // Without power there is no reset.
 pub fn reset(rt: &impl Print, list: &mut [u32; 640], world: World) -> World
-    ensures { result ≡ cond world.state.powered (record world { state = bus_reset_state world.state }) world }
+    ensures world { result ≡ cond world.state.powered (record world { state = bus_reset_state world.state }) world }
+    ensures list { list.new ≡ cond world.state.powered (sets list.old 0 (flat (bus_reset_ops world.state.ep0_address))) list.old }
 {
     if !world.state.powered {
         tool_answers::unfit(rt);

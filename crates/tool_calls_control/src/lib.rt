@@ -10,8 +10,7 @@ ghost use Rattle.control_take_out.specs.TakeOut.{take_out_call};
 
 use control_setup::Fetched;
 use state::State;
-use state_call::Answered;
-use tool_print::Line;
+use tool_called::taken;
 use tool_scripts::number;
 use world::World;
 
@@ -23,20 +22,16 @@ pub fn setup(rt: &impl Print, world: World) -> World
         found(rt, fetched);
     }
     let said = called.answer.map(|fetched| fetched.is_some() as u32);
-    let (number, value) = tool_answers::numbers(said);
-    tool_answers::answer(rt, number, value, called.wakes);
+    tool_answers::answer(rt, said, called.wakes);
     world.with_state(called.state)
 }
 
 fn found(rt: &impl Print, fetched: Fetched) {
-    let mut line = Line::<110>::new();
-    line.text(b"setup");
-    for byte in fetched.setup {
-        line.cell(byte as u32);
-    }
-    line.cell(fetched.generation);
-    line.text(b"\n");
-    let _ = rt.write_all(line.as_bytes());
+    let [a, b, c, d, e, f, g, h] = fetched.setup;
+    let _ = println!(rt;
+        "setup\t{a}\t{b}\t{c}\t{d}\t{e}\t{f}\t{g}\t{h}\t{}",
+        fetched.generation
+    );
 }
 
 // A stage has 512 bytes at most, so that more room changes nothing.
@@ -67,20 +62,6 @@ pub fn take_in(rt: &impl Print, world: World, line: &[u8]) -> World
 {
     let result = control_take::take_in(world.state, world.events, number(line, 0));
     taken(rt, world, result)
-}
-
-// A take that has to wait says no number.
-fn taken(rt: &impl Print, world: World, called: Answered<Option<u32>>) -> World
-    ensures { result ≡ record world { state = called.state } }
-{
-    match called.answer.transpose() {
-        Some(said) => {
-            let (number, value) = tool_answers::numbers(said);
-            tool_answers::answer(rt, number, value, called.wakes);
-        }
-        None => tool_answers::busy(rt),
-    }
-    world.with_state(called.state)
 }
 
 // No call of the driver. Only without power can the Rust be asked.

@@ -4,26 +4,21 @@ ghost use Rattle.tool_scripts.specs.Script.{number_at};
 ghost use Rattle.tool_calls_driver.specs.Request.{kind_of, address_asked, request_of};
 
 use state::{EndpointAddress, EndpointRequest, EndpointType};
-use tool_arguments::{byte, half};
+use tool_arguments::byte;
 use tool_scripts::{flag, number};
 
 // The request of a line, if its numbers fit.
 pub fn read(line: &[u8]) -> Option<EndpointRequest>
     ensures { result ≡ request_of line.now }
 {
-    let bytes = (number(line, 6) < 256) & (number(line, 7) < 256) & (number(line, 9) < 256);
-    let halves = (number(line, 5) < 65536) & (number(line, 8) < 65536);
-    if !(bytes & halves) {
-        return None;
-    }
     Some(EndpointRequest {
         endpoint: asked(line)?,
         ep_type: kind(number(line, 4))?,
-        max_packet_size: half(line, 5),
-        interval_ms: byte(line, 6),
-        max_burst: byte(line, 7),
-        max_streams: half(line, 8),
-        mult: byte(line, 9),
+        max_packet_size: u16::try_from(number(line, 5)).ok()?,
+        interval_ms: u8::try_from(number(line, 6)).ok()?,
+        max_burst: u8::try_from(number(line, 7)).ok()?,
+        max_streams: u16::try_from(number(line, 8)).ok()?,
+        mult: u8::try_from(number(line, 9)).ok()?,
     })
 }
 

@@ -2,6 +2,8 @@
 #![tactic(auto)]
 
 ghost use Rattle.std.specs.Prelude.{◌≡◌, false};
+ghost use Rattle.std.proofs.lemmas.List.Edits.{sets};
+ghost use Rattle.ops.specs.Ops.{flat};
 ghost use Rattle.tool_arguments.specs.Arguments.{byte_at, flag_at};
 ghost use Rattle.transfer_take.specs.Take.{take_call};
 ghost use Rattle.transfer_abandon.specs.Abandon.{abandon_call};
@@ -14,23 +16,14 @@ pub fn take(rt: &impl Print, world: World, line: &[u8]) -> World
 {
     let at = endpoint(line);
     let taken = transfer_take::take(world.state, world.events, at, false, u32::MAX);
-    match taken.answer.transpose() {
-        Some(said) => {
-            let (number, value) = tool_answers::numbers(said);
-            tool_answers::answer(rt, number, value, taken.wakes);
-        }
-        None => tool_answers::busy(rt),
-    }
-    world.with_state(taken.state)
+    tool_called::taken(rt, world, taken)
 }
 
 pub fn abandon(rt: &impl Print, list: &mut [u32; 640], world: World, line: &[u8]) -> World
-    ensures { result ≡ record world { state = (abandon_call 640 world.state world.events (byte_at line.now 1) (flag_at line.now 0)).state } }
+    ensures world { result ≡ record world { state = (abandon_call 640 world.state world.events (byte_at line.now 1) (flag_at line.now 0)).state } }
+    ensures list { list.new ≡ sets list.old 0 (flat (abandon_call 640 world.state world.events (byte_at line.now 1) (flag_at line.now 0)).ops) }
 {
     let at = endpoint(line);
     let abandoned = transfer_abandon::abandon(list, world.state, world.events, at);
-    tool_print::operations(rt, list, abandoned.end);
-    let (number, value) = tool_answers::numbers(abandoned.answer);
-    tool_answers::answer(rt, number, value, abandoned.wakes);
-    world.with_state(abandoned.state)
+    tool_called::listed(rt, list, world, abandoned, abandoned.answer)
 }

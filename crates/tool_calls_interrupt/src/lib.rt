@@ -2,15 +2,18 @@
 #![tactic(auto)]
 
 ghost use Rattle.std.specs.Prelude.{◌≡◌};
+ghost use Rattle.std.proofs.lemmas.List.Edits.{sets};
+ghost use Rattle.ops.specs.Ops.{flat};
 ghost use Rattle.interrupt_begin.specs.Begin.{interrupt_call};
-ghost use Rattle.tool_calls_interrupt.specs.Heard.{left_by, world_heard};
+ghost use Rattle.tool_calls_interrupt.specs.Heard.{left_by, world_heard, list_heard};
 
 use interrupt_asks::InterruptResult;
 use state::Reading;
 use world::World;
 
 pub fn begin(rt: &impl Print, list: &mut [u32; 640], world: World) -> World
-    ensures { result ≡ left_by world (interrupt_call 640 world.state world.events) }
+    ensures world { result ≡ left_by world (interrupt_call 640 world.state world.events) }
+    ensures list { list.new ≡ sets list.old 0 (flat (interrupt_call 640 world.state world.events).ops) }
 {
     let result = interrupt_begin::interrupt(list, world.state, world.events);
     told(rt, list, world, result)
@@ -23,7 +26,8 @@ pub fn answer(
     world: World,
     reading: Option<Reading>,
 ) -> World
-    ensures { result ≡ world_heard world reading }
+    ensures world { result ≡ world_heard world reading }
+    ensures list { list.new ≡ list_heard world reading list.old }
 {
     let Some(reading) = reading else {
         tool_answers::unfit(rt);
@@ -38,7 +42,7 @@ fn told(rt: &impl Print, list: &[u32; 640], world: World, called: InterruptResul
 {
     tool_print::operations(rt, list, called.end);
     match called.answer {
-        Ok(None) => tool_answers::answer(rt, 0, 0, called.wakes),
+        Ok(None) => tool_answers::answer(rt, Ok(0), called.wakes),
         Ok(next) => tool_awaits::awaits(rt, next),
         Err(refusal) => tool_answers::refused(rt, refusal),
     }

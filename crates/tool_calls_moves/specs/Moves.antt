@@ -1,6 +1,8 @@
--- The world behind a line of `move` or `next` (docs/REPLAY.md, "Sends and receives").
+-- The world and the lent list behind a line of `move` or `next` (docs/REPLAY.md, "Sends and receives").
 -- Assumes nothing.
 use Rattle.std.specs.Prelude.{ℕ, min, take, replicate, cond, List, Result, Ok, Err}
+use Rattle.std.proofs.lemmas.List.Edits.{sets}
+use Rattle.ops.specs.Ops.{flat}
 use Rattle.state.specs.declared.State.{State}
 use Rattle.state.specs.declared.Events.{Events}
 use Rattle.state.specs.declared.Slot.{Slot}
@@ -64,6 +66,9 @@ taken_for s v k = cond k.endpoint.incoming (sent_for s v k (slot_for s k)) (rece
 abbrev pub world_begun : World → Asked → World
 world_begun w k = record w { state = (begun_for w.state w.events k).state }
 
+abbrev pub list_begun : World → Asked → List ℕ → List ℕ
+list_begun w k l = sets l 0 (flat (begun_for w.state w.events k).ops)
+
 -- where a piece that was taken leaves more to move, the next one is begun from there
 abbrev pub gone_on : World → Asked → Result Move Refusal → World
 gone_on w k (Err r) = w
@@ -72,5 +77,18 @@ gone_on w k (Ok Busy) = w
 gone_on w k (Ok (More position)) = world_begun w (from k position)
 gone_on w k (Ok (Ended n)) = w
 
+abbrev pub list_gone_on : World → Asked → Result Move Refusal → List ℕ → List ℕ
+list_gone_on w k (Err r) l = l
+list_gone_on w k (Ok (Begun n)) l = l
+list_gone_on w k (Ok Busy) l = l
+list_gone_on w k (Ok (More position)) l = list_begun w (from k position) l
+list_gone_on w k (Ok (Ended n)) l = l
+
+abbrev pub world_taken : World → Asked → World
+world_taken w k = record w { state = (taken_for w.state w.events k).state }
+
 abbrev pub world_next : World → Asked → World
-world_next w k = gone_on (record w { state = (taken_for w.state w.events k).state }) k (taken_for w.state w.events k).answer
+world_next w k = gone_on (world_taken w k) k (taken_for w.state w.events k).answer
+
+abbrev pub list_next : World → Asked → List ℕ → List ℕ
+list_next w k l = list_gone_on (world_taken w k) k (taken_for w.state w.events k).answer l

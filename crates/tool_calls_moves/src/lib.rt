@@ -2,9 +2,11 @@
 #![tactic(auto)]
 
 ghost use Rattle.std.specs.Prelude.{◌≡◌, cond, nat_le};
+ghost use Rattle.std.proofs.lemmas.List.Edits.{sets};
+ghost use Rattle.ops.specs.Ops.{flat};
 ghost use Rattle.tool_scripts.specs.Script.{number_at};
 ghost use Rattle.tool_moves.specs.Lines.{asked_by};
-ghost use Rattle.tool_calls_moves.specs.Moves.{slot_for, request_for, send_for, receive_for, begun_for, sent_for, received_for, taken_for, world_begun, world_next};
+ghost use Rattle.tool_calls_moves.specs.Moves.{slot_for, request_for, send_for, receive_for, begun_for, sent_for, received_for, taken_for, world_begun, list_begun, world_next, list_next};
 
 use endpoint_answer::Move;
 use endpoint_choice::MoveRequest;
@@ -15,26 +17,27 @@ use state_slots::{own_buffer, slot_at, slot_place};
 use tool_copies::copied;
 use tool_moves::asked::Asked;
 use tool_moves::{asked, pieces};
-use tool_print::Line;
 use world::World;
 
 // A piece is begun.
 pub fn begin(rt: &impl Print, list: &mut [u32; 640], world: World, line: &[u8]) -> World
-    ensures { result ≡ cond (nat_le (number_at line.now 4) 65536) (world_begun world (asked_by line.now)) world }
+    ensures world { result ≡ cond (nat_le (number_at line.now 4) 65536) (world_begun world (asked_by line.now)) world }
+    ensures list { list.new ≡ cond (nat_le (number_at line.now 4) 65536) (list_begun world (asked_by line.now) list.old) list.old }
 {
     let asked = asked::read(line);
     if !asked.fits() {
         tool_answers::unfit(rt);
         return world;
     }
-    let result = begun(rt, list, world, asked);
-    told(rt, result.answer, asked, result.wakes);
-    world.with_state(result.state)
+    let begun = begun(rt, list, world, asked);
+    told(rt, begun.answer, asked, begun.wakes);
+    world.with_state(begun.state)
 }
 
 // A piece is taken, and the next one begun.
 pub fn next(rt: &impl Print, list: &mut [u32; 640], world: World, line: &[u8]) -> World
-    ensures { result ≡ cond (nat_le (number_at line.now 4) 65536) (world_next world (asked_by line.now)) world }
+    ensures world { result ≡ cond (nat_le (number_at line.now 4) 65536) (world_next world (asked_by line.now)) world }
+    ensures list { list.new ≡ cond (nat_le (number_at line.now 4) 65536) (list_next world (asked_by line.now) list.old) list.old }
 {
     let asked = asked::read(line);
     if !asked.fits() {
@@ -52,7 +55,8 @@ pub fn next(rt: &impl Print, list: &mut [u32; 640], world: World, line: &[u8]) -
 
 // The next piece is begun, which is what `more` says.
 fn go_on(rt: &impl Print, list: &mut [u32; 640], world: World, asked: Asked) -> World
-    ensures { result ≡ world_begun world asked }
+    ensures world { result ≡ world_begun world asked }
+    ensures list { list.new ≡ list_begun world asked list.old }
 {
     let result = begun(rt, list, world, asked);
     if pieces::is_begun(result.answer) {
@@ -66,19 +70,20 @@ fn go_on(rt: &impl Print, list: &mut [u32; 640], world: World, asked: Asked) -> 
 // The answer's line. Only a receive gives bytes.
 fn told(rt: &impl Print, answer: Result<Move, Refusal>, asked: Asked, wakes: Wakes) {
     match answer {
-        Ok(Move::Begun(_)) => tool_answers::answer(rt, 0, 0, wakes),
+        Ok(Move::Begun(_)) => tool_answers::answer(rt, Ok(0), wakes),
         Ok(Move::Busy) => tool_answers::busy(rt),
         Ok(Move::More(_)) => tool_answers::more(rt, wakes),
         Ok(Move::Ended(total)) => {
             let value = pieces::given(asked.endpoint.incoming, total);
-            tool_answers::answer(rt, 0, value, wakes);
+            tool_answers::answer(rt, Ok(value), wakes);
         }
         Err(refusal) => tool_answers::refused(rt, refusal),
     }
 }
 
 fn begun(rt: &impl Print, list: &mut [u32; 640], world: World, asked: Asked) -> Listed<Move>
-    ensures { result.state ≡ (begun_for world.state world.events asked).state }
+    ensures state { result.state ≡ (begun_for world.state world.events asked).state }
+    ensures list { list.new ≡ list_begun world asked list.old }
 {
     if asked.endpoint.incoming {
         send(rt, list, world, asked)
@@ -118,7 +123,8 @@ fn request(asked: Asked, slot: Slot) -> MoveRequest
 
 // A piece of a send is begun; printed are its copy, its records and itself.
 fn send(rt: &impl Print, list: &mut [u32; 640], world: World, asked: Asked) -> Listed<Move>
-    ensures { result.state ≡ (send_for world.state world.events asked (slot_for world.state asked)).state }
+    ensures state { result.state ≡ (send_for world.state world.events asked (slot_for world.state asked)).state }
+    ensures list { list.new ≡ sets list.old 0 (flat (send_for world.state world.events asked (slot_for world.state asked)).ops) }
 {
     let slot = slot_of(world, asked);
     let mut bytes = [0u8; 65536];
@@ -144,7 +150,8 @@ fn send(rt: &impl Print, list: &mut [u32; 640], world: World, asked: Asked) -> L
 
 // A piece of a receive is begun.
 fn receive(rt: &impl Print, list: &mut [u32; 640], world: World, asked: Asked) -> Listed<Move>
-    ensures { result.state ≡ (receive_for world.state world.events asked (slot_for world.state asked)).state }
+    ensures state { result.state ≡ (receive_for world.state world.events asked (slot_for world.state asked)).state }
+    ensures list { list.new ≡ sets list.old 0 (flat (receive_for world.state world.events asked (slot_for world.state asked)).ops) }
 {
     let slot = slot_of(world, asked);
     let bytes = [0u8; 65536];
@@ -214,12 +221,9 @@ fn received(rt: &impl Print, world: World, asked: Asked) -> Answered<Move>
 // The line of a transfer that was begun.
 fn piece(rt: &impl Print, answer: Result<Move, Refusal>, transfer: Transfer) {
     if pieces::is_begun(answer) {
-        let mut line = Line::<50>::new();
-        line.text(b"piece");
-        line.cell(transfer.address);
-        line.cell(transfer.length);
-        line.cell(transfer.zlp as u32);
-        line.text(b"\n");
-        let _ = rt.write_all(line.as_bytes());
+        let _ = println!(rt;
+            "piece\t{}\t{}\t{}",
+            transfer.address, transfer.length, transfer.zlp as u32
+        );
     }
 }

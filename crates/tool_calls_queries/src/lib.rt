@@ -10,8 +10,7 @@ pub fn stalled(rt: &impl Print, world: World, line: &[u8]) -> World
     ensures { result ≡ world }
 {
     let said = bus_query::is_stalled(world.state, world.events, endpoint(line));
-    let (number, value) = tool_answers::numbers(said.answer.map(u32::from));
-    tool_answers::answer(rt, number, value, said.wakes);
+    tool_answers::answer(rt, said.answer.map(u32::from), said.wakes);
     world
 }
 
@@ -19,7 +18,6 @@ pub fn enabled(rt: &impl Print, world: World, line: &[u8]) -> World
     ensures { result ≡ world }
 {
     let said = bus_query::is_enabled(world.state, world.events, endpoint(line));
-    let (number, value) = tool_answers::numbers(said.answer.map(u32::from));
-    tool_answers::answer(rt, number, value, said.wakes);
+    tool_answers::answer(rt, said.answer.map(u32::from), said.wakes);
     world
 }

@@ -2,6 +2,8 @@
 #![tactic(auto)]
 
 ghost use Rattle.std.specs.Prelude.{◌≡◌};
+ghost use Rattle.std.proofs.lemmas.List.Edits.{sets};
+ghost use Rattle.ops.specs.Ops.{flat};
 ghost use Rattle.tool_scripts.specs.Script.{number_at};
 ghost use Rattle.tool_arguments.specs.Arguments.{byte_at, flag_at};
 ghost use Rattle.control_out.specs.DataOut.{data_out_call};
@@ -10,22 +12,23 @@ ghost use Rattle.control_accept.specs.Accept.{accept_call, accept_address_call};
 ghost use Rattle.control_reject.specs.Reject.{reject_call};
 ghost use Rattle.tool_calls_stage.specs.Lent.{bytes_lent};
 
-use control_stage::Stage;
-use state_call::Listed;
+use tool_called::numberless;
 use tool_scripts::{flag, number};
 use world::World;
 
 // Where the bytes are to go is said when they are taken.
 pub fn data_out(rt: &impl Print, list: &mut [u32; 640], world: World, line: &[u8]) -> World
-    ensures { result ≡ record world { state = (data_out_call 640 world.state world.events (number_at line.now 0)).state } }
+    ensures world { result ≡ record world { state = (data_out_call 640 world.state world.events (number_at line.now 0)).state } }
+    ensures list { list.new ≡ sets list.old 0 (flat (data_out_call 640 world.state world.events (number_at line.now 0)).ops) }
 {
     let result = control_out::data_out(list, world.state, world.events, number(line, 0));
-    told(rt, list, world, result)
+    numberless(rt, list, world, result)
 }
 
 // 513 bytes are as much too long as any more.
 pub fn data_in(rt: &impl Print, list: &mut [u32; 640], world: World, line: &[u8]) -> World
-    ensures { result ≡ record world { state = (data_in_call 640 world.state world.events (number_at line.now 0) (bytes_lent line.now) world.state.ep0_address 512 (flag_at line.now 3) (flag_at line.now 4)).state } }
+    ensures world { result ≡ record world { state = (data_in_call 640 world.state world.events (number_at line.now 0) (bytes_lent line.now) world.state.ep0_address 512 (flag_at line.now 3) (flag_at line.now 4)).state } }
+    ensures list { list.new ≡ sets list.old 0 (flat (data_in_call 640 world.state world.events (number_at line.now 0) (bytes_lent line.now) world.state.ep0_address 512 (flag_at line.now 3) (flag_at line.now 4)).ops) }
 {
     let length = number(line, 2);
     let count = length.min(513) as usize;
@@ -47,39 +50,32 @@ pub fn data_in(rt: &impl Print, list: &mut [u32; 640], world: World, line: &[u8]
     if result.answer.is_ok() {
         tool_copies::copied(rt, number(line, 1), at, &ep0, length);
     }
-    told(rt, list, world, result)
+    numberless(rt, list, world, result)
 }
 
 pub fn accept(rt: &impl Print, list: &mut [u32; 640], world: World, line: &[u8]) -> World
-    ensures { result ≡ record world { state = (accept_call 640 world.state world.events (number_at line.now 0)).state } }
+    ensures world { result ≡ record world { state = (accept_call 640 world.state world.events (number_at line.now 0)).state } }
+    ensures list { list.new ≡ sets list.old 0 (flat (accept_call 640 world.state world.events (number_at line.now 0)).ops) }
 {
     let result = control_accept::accept(list, world.state, world.events, number(line, 0));
-    told(rt, list, world, result)
+    numberless(rt, list, world, result)
 }
 
 pub fn accept_address(rt: &impl Print, list: &mut [u32; 640], world: World, line: &[u8]) -> World
-    ensures { result ≡ record world { state = (accept_address_call 640 world.state world.events (number_at line.now 0) (byte_at line.now 1)).state } }
+    ensures world { result ≡ record world { state = (accept_address_call 640 world.state world.events (number_at line.now 0) (byte_at line.now 1)).state } }
+    ensures list { list.new ≡ sets list.old 0 (flat (accept_address_call 640 world.state world.events (number_at line.now 0) (byte_at line.now 1)).ops) }
 {
     let generation = number(line, 0);
     let address = tool_arguments::byte(line, 1);
     let (state, events) = (world.state, world.events);
     let result = control_accept::accept_address(list, state, events, generation, address);
-    told(rt, list, world, result)
+    numberless(rt, list, world, result)
 }
 
 pub fn reject(rt: &impl Print, list: &mut [u32; 640], world: World, line: &[u8]) -> World
-    ensures { result ≡ record world { state = (reject_call 640 world.state world.events (number_at line.now 0)).state } }
+    ensures world { result ≡ record world { state = (reject_call 640 world.state world.events (number_at line.now 0)).state } }
+    ensures list { list.new ≡ sets list.old 0 (flat (reject_call 640 world.state world.events (number_at line.now 0)).ops) }
 {
     let result = control_reject::reject(list, world.state, world.events, number(line, 0));
-    told(rt, list, world, result)
-}
-
-// What has no number is told as done.
-fn told(rt: &impl Print, list: &[u32; 640], world: World, called: Listed<Stage>) -> World
-    ensures { result ≡ record world { state = called.state } }
-{
-    tool_print::operations(rt, list, called.end);
-    let (number, value) = tool_answers::numbers(called.answer.map(|_| 0));
-    tool_answers::answer(rt, number, value, called.wakes);
-    world.with_state(called.state)
+    numberless(rt, list, world, result)
 }

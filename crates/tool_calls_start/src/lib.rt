@@ -16,7 +16,6 @@ pub fn start(rt: &impl Print, world: World, line: &[u8]) -> World
         return world;
     };
     let started = driver_start::start(world.state, world.events, world.driver, size);
-    let (number, value) = tool_answers::numbers(started.answer.map(|()| 0));
-    tool_answers::answer(rt, number, value, started.wakes);
+    tool_answers::answer(rt, started.answer.map(|()| 0), started.wakes);
     world.with_state(started.state).with_events(started.events)
 }

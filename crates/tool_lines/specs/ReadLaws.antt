@@ -9,6 +9,19 @@ use Rattle.tool_lines.specs.Line.{fields, sameb, «in», out, decimal, numberb, 
 use Rattle.tool_lines.specs.Digits.{value_of, number_of}
 use Rattle.tool_lines.specs.Fields.{first_field, noneb}
 
+-- the request for a direction, five numbers and a flag
+abbrev pub asking : Bool → (e m o a l : ℕ) → Bool → Request
+asking incoming e m o a l zlp =
+    record {
+      incoming = incoming;
+      endpoint = e;
+      max_packet_size = m;
+      own = o;
+      address = a;
+      length = l;
+      zlp = zlp;
+    }
+
 -- a request, if no field follows
 abbrev pub ended : Request → Bool → Option Request
 ended request none = cond none (Some request) None
@@ -16,15 +29,7 @@ ended request none = cond none (Some request) None
 -- what six numbers ask for, the last read first: the sixth is a flag
 abbrev pub flagged : Bool → List ℕ → Bool → Option Request
 flagged incoming (zlp ∷ length ∷ address ∷ own ∷ size ∷ endpoint ∷ []) none =
-    option_and_then (λ set. ended (record {
-      incoming = incoming;
-      endpoint = endpoint;
-      max_packet_size = size;
-      own = own;
-      address = address;
-      length = length;
-      zlp = set;
-    }) none) (flag_of zlp)
+    option_and_then (λ set. ended (asking incoming endpoint size own address length set) none) (flag_of zlp)
 flagged incoming numbers none = None
 
 -- what is asked for where k numbers follow those that were read
@@ -36,85 +41,57 @@ numbered (suc k) incoming ns fs = option_and_then (λ n. numbered k incoming (n 
 abbrev in_turn : List (List ℕ) → Option Request
 in_turn fs = option_and_then (λ incoming. numbered 6 incoming [] (drop 1 fs)) (direction_of (first_field fs))
 
--- the same, of what was tested of each field
-abbrev turns : Bool → Bool → (e m o a l z : Bool) (de dm do' da dl dz : ℕ) → Bool → Option Request
-turns i w e m o a l z de dm do' da dl dz none =
-    option_and_then (λ incoming.
+-- the numbers behind a direction, of what was tested of each field
+abbrev numbers_in_turn : Bool → (e m o a l z : Bool) (de dm do' da dl dz : ℕ) → Bool → Option Request
+numbers_in_turn incoming e m o a l z de dm do' da dl dz none =
     option_and_then (λ endpoint.
     option_and_then (λ size.
     option_and_then (λ own.
     option_and_then (λ address.
     option_and_then (λ length.
     option_and_then (λ flag.
-    option_and_then (λ zlp. ended (record {
-      incoming = incoming;
-      endpoint = endpoint;
-      max_packet_size = size;
-      own = own;
-      address = address;
-      length = length;
-      zlp = zlp;
-    }) none)
+    option_and_then (λ zlp. ended (asking incoming endpoint size own address length zlp) none)
     (flag_of flag))
     (cond z (Some dz) None))
     (cond l (Some dl) None))
     (cond a (Some da) None))
     (cond o (Some do') None))
     (cond m (Some dm) None))
-    (cond e (Some de) None))
-    (cond i (Some true) (cond w (Some false) None))
+    (cond e (Some de) None)
+
+-- and the direction
+abbrev turns : Bool → Bool → (e m o a l z : Bool) (de dm do' da dl dz : ℕ) → Bool → Option Request
+turns i w e m o a l z de dm do' da dl dz none =
+    option_and_then (λ incoming. numbers_in_turn incoming e m o a l z de dm do' da dl dz none) (cond i (Some true) (cond w (Some false) None))
+
+abbrev passing_if : Bool → Bool → (e m o a l z : Bool) (de dm do' da dl dz : ℕ) → Bool → Option Request
+passing_if directed i e m o a l z de dm do' da dl dz none =
+    cond (((directed && (((((e && m) && o) && a) && l) && z)) && ltb (cond z dz 0) 2) && none) (Some (asking i de dm do' da dl (eqb dz 1))) None
 
 abbrev passing : Bool → Bool → (e m o a l z : Bool) (de dm do' da dl dz : ℕ) → Bool → Option Request
-passing i w e m o a l z de dm do' da dl dz none =
-    cond ((((i || w) && (((((e && m) && o) && a) && l) && z)) && ltb (cond z dz 0) 2) && none) (Some (record {
-      incoming = i;
-      endpoint = de;
-      max_packet_size = dm;
-      own = do';
-      address = da;
-      length = dl;
-      zlp = eqb dz 1;
-    })) None
+passing i w = passing_if (i || w) i
 
-set_by : (i w : Bool) (de dm do' da dl dz : ℕ) (none t : Bool) →
-    option_and_then (λ zlp. ended (record {
-      incoming = i;
-      endpoint = de;
-      max_packet_size = dm;
-      own = do';
-      address = da;
-      length = dl;
-      zlp = zlp;
-    }) none) (cond t (Some (eqb dz 1)) None)
-    ≡ cond (t && none) (Some (record {
-      incoming = i;
-      endpoint = de;
-      max_packet_size = dm;
-      own = do';
-      address = da;
-      length = dl;
-      zlp = eqb dz 1;
-    })) None
-set_by i w de dm do' da dl dz none false = refl
-set_by i w de dm do' da dl dz none true = refl
+set_by : (i : Bool) (de dm do' da dl dz : ℕ) (none t : Bool) →
+    option_and_then (λ zlp. ended (asking i de dm do' da dl zlp) none) (cond t (Some (eqb dz 1)) None)
+    ≡ cond (t && none) (Some (asking i de dm do' da dl (eqb dz 1))) None
+set_by i de dm do' da dl dz none false = refl
+set_by i de dm do' da dl dz none true = refl
+
+numbers_turned : (i e m o a l z : Bool) (de dm do' da dl dz : ℕ) (none : Bool) →
+    numbers_in_turn i e m o a l z de dm do' da dl dz none ≡ passing_if true i e m o a l z de dm do' da dl dz none
+numbers_turned i false m o a l z de dm do' da dl dz none = refl
+numbers_turned i true false o a l z de dm do' da dl dz none = refl
+numbers_turned i true true false a l z de dm do' da dl dz none = refl
+numbers_turned i true true true false l z de dm do' da dl dz none = refl
+numbers_turned i true true true true false z de dm do' da dl dz none = refl
+numbers_turned i true true true true true false de dm do' da dl dz none = refl
+numbers_turned i true true true true true true de dm do' da dl dz none = set_by i de dm do' da dl dz none (ltb dz 2)
 
 turned : (i w e m o a l z : Bool) (de dm do' da dl dz : ℕ) (none : Bool) →
     turns i w e m o a l z de dm do' da dl dz none ≡ passing i w e m o a l z de dm do' da dl dz none
 turned false false e m o a l z de dm do' da dl dz none = refl
-turned true w false m o a l z de dm do' da dl dz none = refl
-turned true w true false o a l z de dm do' da dl dz none = refl
-turned true w true true false a l z de dm do' da dl dz none = refl
-turned true w true true true false l z de dm do' da dl dz none = refl
-turned true w true true true true false z de dm do' da dl dz none = refl
-turned true w true true true true true false de dm do' da dl dz none = refl
-turned true w true true true true true true de dm do' da dl dz none = set_by true w de dm do' da dl dz none (ltb dz 2)
-turned false true false m o a l z de dm do' da dl dz none = refl
-turned false true true false o a l z de dm do' da dl dz none = refl
-turned false true true true false a l z de dm do' da dl dz none = refl
-turned false true true true true false l z de dm do' da dl dz none = refl
-turned false true true true true true false z de dm do' da dl dz none = refl
-turned false true true true true true true false de dm do' da dl dz none = refl
-turned false true true true true true true true de dm do' da dl dz none = set_by false true de dm do' da dl dz none (ltb dz 2)
+turned true w e m o a l z de dm do' da dl dz none = numbers_turned true e m o a l z de dm do' da dl dz none
+turned false true e m o a l z de dm do' da dl dz none = numbers_turned false e m o a l z de dm do' da dl dz none
 
 -- the tests in one sequence and in the other
 shuffle : (w e m o a l z : Bool) (d : ℕ) →
@@ -217,15 +194,7 @@ module _ {line : List ℕ} {incoming : Bool} {e m o a l z : ℕ} {fs : List (Lis
   not_flagged f = sym (r.is ∙ rw (← f))
 
   pub read_to_end : {set : Bool} → Some set ≡ flag_of z → noneb fs ≡ true →
-      Some (record {
-        incoming = incoming;
-        endpoint = e;
-        max_packet_size = m;
-        own = o;
-        address = a;
-        length = l;
-        zlp = set;
-      }) ≡ read_line line
+      Some (asking incoming e m o a l set) ≡ read_line line
   unfolding numbered
   read_to_end f none = sym (r.is ∙ rw (← f, none))
 

@@ -12,7 +12,7 @@ use transfer_piece::{Faults, Piece};
 pub fn line(rt: &impl Print, list: &mut [u32; 640], text: &[u8]) {
     match tool_lines::read_line(text) {
         Some(request) => transfer(rt, list, request),
-        None => tool_listing_answers::refused(rt, 0),
+        None => tool_listing_answers::unreadable(rt),
     }
 }
 
@@ -22,7 +22,7 @@ fn transfer(rt: &impl Print, list: &mut [u32; 640], request: Request) {
     let begun = begun(rt, list, request, endpoint);
     match begun.answer {
         Ok(()) => reports(rt, list, begun.state, endpoint, request),
-        Err(refusal) => tool_listing_answers::refused(rt, refusal.into()),
+        Err(refusal) => tool_listing_answers::refused(rt, refusal),
     }
 }
 
@@ -38,12 +38,9 @@ fn begun(
     let piece = Piece {
         address: request.address,
         length: request.length,
-        zlp: request.incoming & request.zlp,
+        zlp: request.incoming && request.zlp,
     };
-    let faults = Faults {
-        long: false,
-        unfit: false,
-    };
+    let faults = Faults::default();
     let begun = transfer_begin::begin(list, state, events, endpoint, piece, faults);
     tool_print::operations(rt, list, begun.end);
     begun

@@ -31,6 +31,5 @@ fn operation(rt: &impl Print, numbers: &[u32])
     line.text(b"\t");
     line.text(tool_fields::field_name(numbers[3]).as_bytes());
     line.cell(numbers[4]);
-    line.text(b"\n");
-    let _ = rt.write_all(line.as_bytes());
+    line.print(rt);
 }

@@ -66,4 +66,12 @@ impl<const N: usize> Line<N> {
     {
         &self.bytes[..self.len]
     }
+
+    // Ends the line and writes it. As in the programs, a write that fails is passed over.
+    pub fn print(mut self, rt: &impl Print)
+        requires { length self + 1 ≤ N }
+    {
+        self.text(b"\n");
+        let _ = rt.write_all(self.as_bytes());
+    }
 }

@@ -1,11 +1,12 @@
 -- The numbers of a script's line, one after the other.
 -- Assumes nothing.
 use Rattle.std.specs.Prelude.{ℕ, suc, ◌+◌, ◌-◌, ◌≤◌, ◌<◌, Bool, true, false, cond, Option, Some, None, List, [], ◌∷◌, ◌≡◌, refl, leb, length, not, get_or, drop, is_some, unwrap_or}
-use Rattle.std.proofs.Common.{true≢false, sym, ◌∙◌, arith, add-zero, drop-drop, get_or-drop}
+use Rattle.std.proofs.Common.{true≢false, ap, sym, ◌∙◌, arith, add-zero, drop-drop, get_or-drop}
+use Rattle.std.proofs.lemmas.List.{drop_all, length-drop}
 use Rattle.std.proofs.Math.Bool.{and-false}
 use Rattle.std.proofs.Math.Dec.{leb-suc-suc, leb-suc-zero, leb-zero}
 use Rattle.std.specs.Borrow.{Bor}
-use Rattle.std.specs.Iterator.{YieldsFirstRef}
+use Rattle.std.specs.Iterator.{Yields, SkipsThenYields, YieldsFirstRef}
 use Rattle.tool_words.specs.declared.Meant.{Meant}
 use Rattle.tool_words.specs.declared.Word.TheVariants.{Unfit}
 use Rattle.tool_words.specs.Words.{meaning_of}
@@ -24,12 +25,12 @@ number_or_0 field = go (numberb field)
     go false = refl
 
 -- number k of a line, behind those before it
-pub number_found : (line : List ℕ) (k i n : ℕ) (left : List (List ℕ)) (found : Option ℕ) → i ≡ k → left ≡ drop (i + 1) (fields line) →
+pub number_found : (line : List ℕ) (k n : ℕ) (left : List (List ℕ)) (found : Option ℕ) → left ≡ drop (k + 1) (fields line) →
     found ≡ number_of (first_field left) → n ≡ unwrap_or found 0 → n ≡ number_at line k
-number_found line k i n left found last l f e =
+number_found line k n left found l f e =
     let place : get_or (drop (k + 1) (fields line)) 0 [] ≡ get_or (fields line) (k + 1) []
     = rw (get_or-drop (k + 1) (fields line) 0 [], add-zero (k + 1)) in
-    let field : first_field left ≡ get_or (fields line) (k + 1) [] = rw (l, last) place in
+    let field : first_field left ≡ get_or (fields line) (k + 1) [] = rw l place in
     e ∙ rw (f, number_or_0 (first_field left), field)
 
 -- whether a field is a number
@@ -47,6 +48,22 @@ passed fs left (Some f) y = rw y
 
 pub passed_behind : (all left : List (List ℕ)) (k : ℕ) (fs : List (List ℕ)) → fs ≡ drop k all → left ≡ drop 1 fs → left ≡ drop (k + 1) all
 passed_behind all left k fs e h = h ∙ rw (e, drop-drop 1 k all)
+
+-- the fields that were taken off one after the other
+each_passed : (passed : List (Bor (List ℕ))) (fs left : List (List ℕ)) → Yields (YieldsFirstRef (λ (l : List (List ℕ)). l)) fs passed left →
+    left ≡ drop (length passed) fs
+each_passed [] fs left y = sym y
+each_passed (f ∷ passed) fs left y = each_passed passed y.0 left y.2 ∙ rw y.1
+
+-- one more than k of them, or all where there are fewer
+pub all_passed : (fs left : List (List ℕ)) (k : ℕ) (found : Option (Bor (List ℕ))) →
+    SkipsThenYields (YieldsFirstRef (λ (l : List (List ℕ)). l)) fs k found left → left ≡ drop (k + 1) fs
+all_passed fs left k None s =
+    let none : drop (length s.0) fs ≡ [] = sym (each_passed s.0 fs s.1.0 s.1.1) ∙ s.1.2.0 in
+    let few : length fs ≤ k + 1 = omega (arith, length-drop (length s.0) fs, ap length none, s.2) in
+    rw (s.1.2.1, drop_all (k + 1) fs few)
+all_passed fs left k (Some f) s =
+    passed_behind fs left k s.1.0 (rw s.2 at (each_passed s.0 fs s.1.0 s.1.1)) (passed s.1.0 left (Some f) s.1.2)
 
 -- the word of a line, and the call that it asks for
 pub word_told : (fs left : List (List ℕ)) (found : Option (Bor (List ℕ))) (word none : Bor (List ℕ)) →

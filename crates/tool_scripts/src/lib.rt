@@ -37,10 +37,7 @@ pub fn number(line: &[u8], k: usize) -> u32
     ensures { result ≡ number_at line.now k }
 {
     let mut fields = Fields::of(line);
-    fields.next();
-    for _ in 0..k {
-        fields.next();
-    }
+    fields.nth(k);
     fields.number().unwrap_or(0)
 }
 

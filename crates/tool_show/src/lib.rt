@@ -2,7 +2,6 @@
 #![tactic(auto)]
 
 use state::{Events, Setup, State};
-use tool_print::Line;
 
 pub fn state(rt: &impl Print, state: State, events: Events) {
     device(rt, state, events);
@@ -13,41 +12,31 @@ pub fn state(rt: &impl Print, state: State, events: Events) {
 }
 
 fn device(rt: &impl Print, state: State, events: Events) {
-    let mut line = Line::<160>::new();
-    line.text(b"device");
-    line.cell(state.ep0_address);
-    line.cell(state.powered as u32);
-    line.cell(state.suspended as u32);
-    line.cell(state.wake as u32);
-    line.cell(state.setup.is_some() as u32);
-    line.cell(state.control_generation);
-    line.cell(state.in_last as u32);
-    line.cell(state.tx_seq as u32);
-    line.cell(state.address.is_some() as u32);
-    line.cell(state.revision as u32);
-    line.cell(state.reset_seen as u32);
-    line.cell(state.low_power as u32);
-    line.cell(events.events as u32);
-    line.text(b"\n");
-    let _ = rt.write_all(line.as_bytes());
+    let _ = println!(rt;
+        "device\t{}\t{}\t{}\t{}\t{}\t{}\t{}\t{}\t{}\t{}\t{}\t{}\t{}",
+        state.ep0_address,
+        state.powered as u32,
+        state.suspended as u32,
+        state.wake as u32,
+        state.setup.is_some() as u32,
+        state.control_generation,
+        state.in_last as u32,
+        state.tx_seq,
+        state.address.is_some() as u32,
+        state.revision,
+        state.reset_seen as u32,
+        state.low_power as u32,
+        events.events,
+    );
 }
 
 // Of a SETUP that nobody has fetched; zeros where there is none.
 fn pending(rt: &impl Print, setup: Option<Setup>) {
-    let mut line = Line::<100>::new();
-    line.text(b"pending");
-    for byte in setup.unwrap_or([0; 8]) {
-        line.cell(byte as u32);
-    }
-    line.text(b"\n");
-    let _ = rt.write_all(line.as_bytes());
+    let [a, b, c, d, e, f, g, h] = setup.unwrap_or([0; 8]);
+    let _ = println!(rt; "pending\t{a}\t{b}\t{c}\t{d}\t{e}\t{f}\t{g}\t{h}");
 }
 
 // The address that waits, or 0.
 fn address(rt: &impl Print, address: Option<u8>) {
-    let mut line = Line::<20>::new();
-    line.text(b"address");
-    line.cell(address.unwrap_or(0) as u32);
-    line.text(b"\n");
-    let _ = rt.write_all(line.as_bytes());
+    let _ = println!(rt; "address\t{}", address.unwrap_or(0));
 }

@@ -1,10 +1,7 @@
 // A line for each slot, as docs/REPLAY.md has it.
 #![tactic(auto)]
 
-ghost use Rattle.std.specs.Prelude.{◌+◌, ◌≤◌, length};
-
-use state::{EndpointConfig, EndpointType, Phase, Slot, State, Transfer};
-use tool_print::Line;
+use state::{EndpointConfig, EndpointType, Phase, Slot, State};
 
 pub fn lines(rt: &impl Print, state: State) {
     for (i, slot) in state.endpoints.iter().enumerate() {
@@ -13,20 +10,18 @@ pub fn lines(rt: &impl Print, state: State) {
 }
 
 fn line(rt: &impl Print, i: u32, slot: Slot) {
-    let mut line = Line::<180>::new();
-    line.text(b"slot");
-    line.cell(i);
-    line.cell(slot.config.is_some() as u32);
-    line.cell(slot.enabled as u32);
-    line.cell(slot.stalled as u32);
-    line.cell(phase_number(slot.phase));
-    in_hand(&mut line, slot.transfer);
-    match slot.config {
-        Some(config) => configured(&mut line, config),
-        None => line.text(b"\t0\t0\t0\t0\t0\t0"),
-    }
-    line.text(b"\n");
-    let _ = rt.write_all(line.as_bytes());
+    let [kind, size, interval, burst, buffer, room] = configured(slot.config);
+    let _ = println!(rt;
+        "slot\t{i}\t{}\t{}\t{}\t{}\t{}\t{}\t{}\t{}\t{kind}\t{size}\t{interval}\t{burst}\t{buffer}\t{room}",
+        slot.config.is_some() as u32,
+        slot.enabled as u32,
+        slot.stalled as u32,
+        phase_number(slot.phase),
+        slot.transfer.address,
+        slot.transfer.length,
+        slot.transfer.progress,
+        slot.transfer.zlp as u32,
+    );
 }
 
 fn phase_number(phase: Phase) -> u32 {
@@ -37,26 +32,19 @@ fn phase_number(phase: Phase) -> u32 {
     }
 }
 
-fn in_hand(line: &mut Line<180>, transfer: Transfer)
-    requires { length line.old + 44 ≤ 180 }
-    ensures { length line.new ≤ length line.old + 44 }
-{
-    line.cell(transfer.address);
-    line.cell(transfer.length);
-    line.cell(transfer.progress);
-    line.cell(transfer.zlp as u32);
-}
-
-fn configured(line: &mut Line<180>, config: EndpointConfig)
-    requires { length line.old + 66 ≤ 180 }
-    ensures { length line.new ≤ length line.old + 66 }
-{
-    line.cell(kind_number(config.ep_type));
-    line.cell(config.max_packet_size as u32);
-    line.cell(config.interval_ms as u32);
-    line.cell(config.max_burst as u32);
-    line.cell(config.buffer.address);
-    line.cell(config.buffer.size);
+// Zeros where nothing is configured.
+fn configured(config: Option<EndpointConfig>) -> [u32; 6] {
+    match config {
+        Some(config) => [
+            kind_number(config.ep_type),
+            config.max_packet_size as u32,
+            config.interval_ms as u32,
+            config.max_burst as u32,
+            config.buffer.address,
+            config.buffer.size,
+        ],
+        None => [0; 6],
+    }
 }
 
 fn kind_number(kind: EndpointType) -> u32 {

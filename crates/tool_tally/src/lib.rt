@@ -2,29 +2,22 @@
 #![tactic(auto)]
 
 use state::State;
-use tool_tally_steps::{begun, enabled, pending, sending};
+use tool_tally_steps::{Bench, sending};
 
-pub fn run(list: &mut [u32; 640]) -> State {
-    let a = switched_on(list);
-    let b = tool_tally_small::transfers(list, a);
-    let c = reset(list, b);
-    switched_off(list, c)
-}
-
-fn switched_on(list: &mut [u32; 640]) -> State {
-    let off = tool_tally_bus::started(pending());
-    let on = tool_tally_bus::on(list, off, pending());
-    tool_tally_parts::in_use(list, on)
+pub fn run() -> State {
+    let mut bench = tool_tally_bus::started();
+    tool_tally_bus::on(&mut bench);
+    tool_tally_parts::in_use(&mut bench);
+    tool_tally_small::transfers(&mut bench);
+    reset(&mut bench);
+    // What slot 5 has in hand is cut.
+    tool_tally_bus::off(&mut bench);
+    bench.state
 }
 
 // A bus reset cuts what slots 2 and 3 have in hand; slot 5 begins anew.
-fn reset(list: &mut [u32; 640], state: State) -> State {
-    let after = tool_tally_bus::reset(list, state);
-    let a = enabled(list, after, sending(2), true);
-    begun(list, a, sending(2), 100)
-}
-
-// What slot 5 has in hand is cut.
-fn switched_off(list: &mut [u32; 640], state: State) -> State {
-    tool_tally_bus::off(list, state, pending())
+fn reset(bench: &mut Bench) {
+    tool_tally_bus::reset(bench);
+    bench.set_enabled(sending(2), true);
+    bench.begin(sending(2), 100);
 }

@@ -2,11 +2,9 @@
 #![tactic(auto)]
 
 use state::{State, Tally};
-use tool_cells::text;
-use tool_print::Line;
 
 pub fn tallies(rt: &impl Print, state: State) {
-    text(rt, b"slot\tbegun\tfinished\tcut\tbytes\n");
+    let _ = println!(rt; "slot\tbegun\tfinished\tcut\tbytes");
     for (i, slot) in state.endpoints.iter().enumerate() {
         if slot.config.is_some() {
             line(rt, i as u32, slot.tally);
@@ -15,12 +13,8 @@ pub fn tallies(rt: &impl Print, state: State) {
 }
 
 fn line(rt: &impl Print, i: u32, tally: Tally) {
-    let mut line = Line::<60>::new();
-    line.number(i);
-    line.cell(tally.begun);
-    line.cell(tally.finished);
-    line.cell(tally.cut);
-    line.cell(tally.bytes);
-    line.text(b"\n");
-    let _ = rt.write_all(line.as_bytes());
+    let _ = println!(rt;
+        "{i}\t{}\t{}\t{}\t{}",
+        tally.begun, tally.finished, tally.cut, tally.bytes
+    );
 }

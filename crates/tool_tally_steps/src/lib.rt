@@ -1,4 +1,4 @@
-// Orders and transfers, a call each: the state that it leaves.
+// What a script of calls runs on, and its orders and transfers, a call each.
 #![tactic(auto)]
 
 ghost use Rattle.std.specs.Prelude.{◌≡◌, true, false};
@@ -39,50 +39,64 @@ pub fn pending() -> Events
     }
 }
 
-pub fn enabled(
-    list: &mut [u32; 640],
-    state: State,
-    endpoint: EndpointAddress,
-    enabled: bool,
-) -> State {
-    bus_order::endpoint_set_enabled(list, state, pending(), endpoint, enabled).state
+// The list that the calls write, and the state that they leave.
+#[derive(Drop)]
+pub struct Bench {
+    pub list: [u32; 640],
+    pub state: State,
 }
 
-pub fn stalled(
-    list: &mut [u32; 640],
-    state: State,
-    endpoint: EndpointAddress,
-    stalled: bool,
-) -> State {
-    bus_order::endpoint_set_stalled(list, state, pending(), endpoint, stalled).state
-}
+impl Bench {
+    pub fn set_enabled(&mut self, endpoint: EndpointAddress, enabled: bool) {
+        let list = &mut self.list;
+        let order = bus_order::endpoint_set_enabled(list, self.state, pending(), endpoint, enabled);
+        self.state = order.state;
+    }
 
-pub fn begun(list: &mut [u32; 640], state: State, endpoint: EndpointAddress, length: u32) -> State {
-    let piece = Piece {
-        address: BUFFER,
-        length,
-        zlp: false,
-    };
-    let faults = Faults {
-        long: false,
-        unfit: false,
-    };
-    transfer_begin::begin(list, state, pending(), endpoint, piece, faults).state
-}
+    pub fn set_stalled(&mut self, endpoint: EndpointAddress, stalled: bool) {
+        let list = &mut self.list;
+        let order = bus_order::endpoint_set_stalled(list, self.state, pending(), endpoint, stalled);
+        self.state = order.state;
+    }
 
-pub fn taken(state: State, endpoint: EndpointAddress) -> State {
-    transfer_take::take(state, pending(), endpoint, false, u32::MAX).state
-}
+    pub fn begin(&mut self, endpoint: EndpointAddress, length: u32) {
+        let piece = Piece {
+            address: BUFFER,
+            length,
+            zlp: false,
+        };
+        let faults = Faults::default();
+        let list = &mut self.list;
+        let begun = transfer_begin::begin(list, self.state, pending(), endpoint, piece, faults);
+        self.state = begun.state;
+    }
 
-pub fn abandoned(list: &mut [u32; 640], state: State, endpoint: EndpointAddress) -> State {
-    transfer_abandon::abandon(list, state, pending(), endpoint).state
-}
+    pub fn take(&mut self, endpoint: EndpointAddress) {
+        self.state = transfer_take::take(self.state, pending(), endpoint, false, u32::MAX).state;
+    }
 
-pub fn reported(
-    list: &mut [u32; 640],
-    state: State,
-    endpoint: EndpointAddress,
-    report: Report,
-) -> State {
-    transfer_report::report(&mut OpList::new(list), state, endpoint, report)
+    pub fn abandon(&mut self, endpoint: EndpointAddress) {
+        let list = &mut self.list;
+        self.state = transfer_abandon::abandon(list, self.state, pending(), endpoint).state;
+    }
+
+    pub fn report(&mut self, endpoint: EndpointAddress, report: Report) {
+        let mut ops = OpList::new(&mut self.list);
+        self.state = transfer_report::report(&mut ops, self.state, endpoint, report);
+    }
+
+    // Begun, and its first chain reported.
+    pub fn send(&mut self, index: u8, length: u32) {
+        self.begin(sending(index), length);
+        let told = Report {
+            packets: 0,
+            last: 0,
+        };
+        self.report(sending(index), told);
+    }
+
+    pub fn receive(&mut self, index: u8, length: u32, packets: u32, last: u32) {
+        self.begin(receiving(index), length);
+        self.report(receiving(index), Report { packets, last });
+    }
 }

@@ -4,7 +4,7 @@
 ghost use Rattle.std.specs.Prelude.{◌≡◌, length as list_length};
 ghost use Rattle.ops.specs.Wrote.{Wrote};
 ghost use Rattle.state.specs.Refusals.{first_refusal};
-ghost use Rattle.state_call.specs.Turn.{admitted_of};
+ghost use Rattle.state_call.specs.Turn.{admitted_at};
 ghost use Rattle.transfer_abandon.specs.Abandon.{abandon_own, settle_time, abandon_call, abandon_numbers, abandon_says};
 
 use ops::OpList;
@@ -16,7 +16,7 @@ use state_slots::waking::no_wakes;
 use state_slots::{forget, is_busy, is_data_endpoint, slot_place};
 
 fn abandon_check(lent: ListEntry, index: u8) -> Result<(), Refusal>
-    ensures { result ≡ first_refusal (admitted_of lent.room lent.entry.good lent.entry.awaited.next (abandon_own index)) }
+    ensures { result ≡ first_refusal (admitted_at lent (abandon_own index)) }
 {
     lent.admit()?;
     refuse_if(!is_data_endpoint(index), Refusal::NoDataEndpoint)
@@ -46,14 +46,8 @@ pub fn abandon(
 {
     let lent = ListEntry::new(ops.len(), &state, events);
     let check = abandon_check(lent, endpoint.index);
-    let wakes = no_wakes();
     if let Err(refusal) = check {
-        return Listed {
-            state,
-            answer: Err(refusal),
-            end: 0,
-            wakes,
-        };
+        return Listed::quiet(state, Err(refusal));
     }
     let i = slot_place(endpoint);
     let slot = state.endpoints[i];
@@ -65,6 +59,6 @@ pub fn abandon(
         state,
         answer: Ok(settle_time(endpoint.incoming, busy)),
         end: list.end,
-        wakes,
+        wakes: no_wakes(),
     }
 }

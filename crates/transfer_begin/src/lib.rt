@@ -12,7 +12,6 @@ ghost use Rattle.transfer_begin.specs.Begin.{begin_conditions, begin_call};
 use ops::OpList;
 use state::{EndpointAddress, Events, Refusal, State};
 use state_call::{ListEntry, Listed};
-use state_slots::waking::no_wakes;
 use state_slots::{slot_number, slot_place};
 use transfer_chain::{CHAIN_PACKETS, queue};
 use transfer_piece::{Faults, Piece, begun_slot, slot_check};
@@ -66,14 +65,8 @@ pub fn begin(
     ensures number { check_number result.answer ≡ check_number (first_refusal (begin_conditions (list_length ops.old) state events endpoint.index endpoint.incoming piece faults.long faults.unfit)) }
 {
     let check = begin_check(ops.len(), &state, events, endpoint, piece, faults);
-    let wakes = no_wakes();
     if let Err(refusal) = check {
-        return Listed {
-            state,
-            answer: Err(refusal),
-            end: 0,
-            wakes,
-        };
+        return Listed::quiet(state, Err(refusal));
     }
     let i = slot_place(endpoint);
     // this transfer is in hand when the windows are decided
@@ -81,10 +74,5 @@ pub fn begin(
     let mut list = OpList::new(ops);
     windows(&mut list, &state);
     queue(&mut list, CHAIN_PACKETS, endpoint, &mut state.endpoints[i]);
-    Listed {
-        state,
-        answer: Ok(()),
-        end: list.end,
-        wakes,
-    }
+    Listed::wrote(state, Ok(()), list.end)
 }

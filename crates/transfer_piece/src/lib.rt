@@ -19,7 +19,7 @@ pub struct Piece {
 }
 
 // What the caller says against it: what it is to send is too long, what it lent is unfit.
-#[derive(Clone, Copy)]
+#[derive(Clone, Copy, Default)]
 pub struct Faults {
     pub long: bool,
     pub unfit: bool,

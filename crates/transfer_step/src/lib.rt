@@ -9,7 +9,7 @@ ghost use Rattle.transfer_step.specs.Step.{step_of, report_step, slot_after, wak
 use ops::OpList;
 use regs_endpoint::set_out_window;
 use state::{EndpointAddress, Slot};
-use state_slots::completing::{done, waiter_of};
+use state_slots::completing::{Reported, done, waiter_of};
 use state_slots::waking::add_slot;
 use state_slots::{is_busy, slot_size};
 use transfer_chain::{Report, after_report, in_goes_on, out_goes_on, queue};
@@ -20,13 +20,6 @@ pub enum Step {
     Ignored,
     GoesOn(Slot),
     Completes(Slot),
-}
-
-// What a report leaves of its slot, and the slots to wake.
-#[derive(Clone, Copy)]
-pub struct Followed {
-    pub slot: Slot,
-    pub wake: u16,
 }
 
 fn step_of(busy: bool, more: bool, slot: Slot) -> Step
@@ -87,22 +80,22 @@ fn follow(
     wake: u16,
     slot: Slot,
     step: Step,
-) -> Followed
+) -> Reported
     requires { Room 6 list.old }
     ensures slot { result.slot ≡ slot_after limit endpoint.incoming slot step }
     ensures wake { result.wake ≡ wake_after wake i step }
     ensures list { Adds list.old (list_after limit window endpoint.index endpoint.incoming step) list.new }
 {
     match step {
-        Step::Ignored => Followed { slot, wake },
+        Step::Ignored => Reported { slot, wake },
         Step::GoesOn(mut counted) => {
             go_on(list, limit, window, endpoint, &mut counted);
-            Followed {
+            Reported {
                 slot: counted,
                 wake,
             }
         }
-        Step::Completes(counted) => Followed {
+        Step::Completes(counted) => Reported {
             slot: done(counted),
             wake: add_slot(wake, waiter_of(i)),
         },
@@ -121,7 +114,7 @@ pub fn report_slot(
     wake: u16,
     slot: Slot,
     report: Report,
-) -> Followed
+) -> Reported
     requires { Room 6 list.old }
     ensures slot { result.slot ≡ slot_after limit endpoint.incoming slot (report_step limit endpoint.incoming report.packets report.last slot) }
     ensures wake { result.wake ≡ wake_after wake i (report_step limit endpoint.incoming report.packets report.last slot) }

@@ -14,7 +14,6 @@ use Rattle.state_slots.specs.Slots.{idleb, busyb, slot_number, slot_of, data_end
 use Rattle.state_slots.specs.Waking.{no_wakes}
 use Rattle.state_call.specs.Turn.{in_turn}
 use Rattle.state_call.specs.Outcome.{Outcome, or_else, unless}
-use Rattle.transfer_take.specs.declared.Took.{Took}
 
 -- 7; 22 of a slot that is idle; 8 where what the caller has lent for the bytes is unfit
 abbrev pub take_own : ℕ → Bool → Slot → List Condition
@@ -64,5 +63,9 @@ take_says s v e incoming unfit most =
     (cond (nat_lt most (slot_of s e incoming).transfer.progress) (9 ∷ []) (0 ∷ 1 ∷ (slot_of s e incoming).transfer.progress ∷ [])))
 
 -- what is said of the slot by itself, and what becomes of it
+pub record Took : Type 0 where
+  pub answer : Result (Option ℕ) Refusal
+  pub slot : Slot
+
 abbrev pub took_at : Check → ℕ → Slot → Took
 took_at c most x = record { answer = or_else c Err (take_answer most x); slot = or_else c (λ r. x) (take_leaves x) }

@@ -1,12 +1,13 @@
 -- Taking: the slot by itself is the call, and its numbers are the paper's.
 -- Assumes nothing.
-use Rattle.std.specs.Prelude.{◌≡◌, ℕ, Bool, true, false, cond, not, [], ◌∷◌, nat_lt, Ok, Err, Some, None}
+use Rattle.std.specs.Prelude.{◌≡◌, ℕ, Bool, true, false, cond, not, [], ◌∷◌, nat_lt, Ok, Err, Some, None, Option, Result}
 use Rattle.std.proofs.Math.Path.{refl, sym}
 use Rattle.std.proofs.Common.{ap, ◌∙◌}
 use Rattle.std.proofs.lemmas.Bool.{not-false}
 use Rattle.state.specs.declared.Slot.{Slot}
 use Rattle.state.specs.declared.State.{State}
 use Rattle.state.specs.declared.Events.{Events}
+use Rattle.state.specs.declared.Refusal.{Refusal}
 use Rattle.state.specs.declared.Refusal.TheVariants.{Unsound, OutOfTurn, Disabled, UnfitBuffer, TooLong}
 use Rattle.state.specs.Fresh.{slot_at}
 use Rattle.state.specs.Setters.{with_slot}
@@ -20,8 +21,7 @@ use Rattle.state_sound.specs.Sound.{soundb}
 use Rattle.state_call.specs.Turn.{turn_of}
 use Rattle.state_call.specs.Outcome.{or_else}
 use Rattle.state_call.specs.OutcomeLaws.{or_same, call_answer, call_state, call_wakes, passed_turn, reached, stored, told}
-use Rattle.transfer_take.specs.declared.Took.{Took}
-use Rattle.transfer_take.specs.Take.{take_own, take_conditions, take_answer, take_leaves, take_call, take_numbers, take_says, took_at}
+use Rattle.transfer_take.specs.Take.{Took, take_own, take_conditions, take_answer, take_leaves, take_call, take_numbers, take_says, took_at}
 
 -- Each refusal is given exactly where it is the first that is due, and none where none is.
 pub take_bound : (s : State) (v : Events) (e : ℕ) (incoming unfit : Bool) → Bound (take_conditions s v e incoming unfit) (first_refusal (take_conditions s v e incoming unfit))
@@ -62,3 +62,12 @@ module _ (s : State) (v : Events) (e : ℕ) (incoming unfit : Bool) (most : ℕ)
       let kept = stored s e incoming k take_leaves take_reaches in
       rw (q, check_place)
       (same ∙ sym (call_answer Err k s v _), (kept ∙ sym (call_state Err k s v _), (sym (or_same k no_wakes) ∙ sym (call_wakes Err k s v _), rw same (numbers k (slot_of s e incoming)))))
+
+  -- the same of the two by themselves
+  pub took_parts : {answer : Result (Option ℕ) Refusal} {slot : Slot}
+      → answer ≡ (took_at (first_refusal (turn_of (soundb s v) s.awaited.next (take_own e unfit (slot_at s (slot_place e incoming))))) most (slot_at s (slot_place e incoming))).answer
+      → slot ≡ (took_at (first_refusal (turn_of (soundb s v) s.awaited.next (take_own e unfit (slot_at s (slot_place e incoming))))) most (slot_at s (slot_place e incoming))).slot
+      → (answer ≡ (take_call s v e incoming unfit most).answer)
+      × ((with_slot s (slot_place e incoming) slot ≡ (take_call s v e incoming unfit most).state)
+      × ((no_wakes ≡ (take_call s v e incoming unfit most).wakes) × (take_numbers answer ≡ take_says s v e incoming unfit most)))
+  took_parts {answer} {slot} says leaves = took_take (record { answer = answer; slot = slot }) (rw (says, leaves) refl)

@@ -4,20 +4,13 @@
 ghost use Rattle.std.specs.Prelude.{◌≡◌, nat_lt, if◌then◌else◌, Some, Ok, Err};
 ghost use Rattle.state.specs.declared.Refusal.TheVariants.{TooLong};
 ghost use Rattle.state.specs.Refusals.{first_refusal};
-ghost use Rattle.state_call.specs.Turn.{turn_of};
+ghost use Rattle.state_call.specs.Turn.{turn_at};
 ghost use Rattle.transfer_take.specs.Take.{take_own, taken_slot, took_at, take_call, take_numbers, take_says};
 
 use state::refusals::refuse_if;
 use state::{EndpointAddress, Events, Phase, Refusal, Slot, State, Tally};
 use state_call::{Answered, Entry};
-use state_slots::waking::no_wakes;
 use state_slots::{is_busy, is_data_endpoint, is_idle, slot_place};
-
-#[derive(Clone, Copy)]
-struct Took {
-    answer: Result<Option<u32>, Refusal>,
-    slot: Slot,
-}
 
 // The slot with its transfer finished.
 fn taken_slot(slot: Slot) -> Slot
@@ -35,7 +28,7 @@ fn taken_slot(slot: Slot) -> Slot
 }
 
 fn take_check(entry: Entry, index: u8, unfit: bool, slot: Slot) -> Result<(), Refusal>
-    ensures { result ≡ first_refusal (turn_of entry.good entry.awaited.next (take_own index unfit slot)) }
+    ensures { result ≡ first_refusal (turn_at entry (take_own index unfit slot)) }
 {
     entry.admit()?;
     refuse_if(!is_data_endpoint(index), Refusal::NoDataEndpoint)?;
@@ -53,25 +46,17 @@ fn taken_bytes(bytes: u32, most: u32) -> Result<Option<u32>, Refusal>
 
 // What a take says of a slot, and leaves of it.
 #[tactic(auto, unfolding(state_call::specs::Outcome::or_else))]
-fn take_slot(check: Result<(), Refusal>, most: u32, slot: Slot) -> Took
-    ensures { result ≡ took_at check most slot }
+fn take_slot(check: Result<(), Refusal>, most: u32, slot: &mut Slot) -> Result<Option<u32>, Refusal>
+    ensures answer { result ≡ (took_at check most slot.old).answer }
+    ensures slot { slot.new ≡ (took_at check most slot.old).slot }
 {
-    if let Err(refusal) = check {
-        return Took {
-            answer: Err(refusal),
-            slot,
-        };
-    }
+    check?;
     if is_busy(slot.phase) {
-        return Took {
-            answer: Ok(None),
-            slot,
-        };
+        return Ok(None);
     }
-    Took {
-        answer: taken_bytes(slot.transfer.progress, most),
-        slot: taken_slot(slot),
-    }
+    let bytes = slot.transfer.progress;
+    *slot = taken_slot(*slot);
+    taken_bytes(bytes, most)
 }
 
 // Says that a transfer is busy, or takes the bytes that it moved and leaves the slot idle. `unfit` is the caller's: what
@@ -90,13 +75,8 @@ pub fn take(
 {
     let entry = Entry::new(&state, events);
     let i = slot_place(endpoint);
-    let slot = state.endpoints[i];
-    let check = take_check(entry, endpoint.index, unfit, slot);
-    let took = take_slot(check, most, slot);
-    state.endpoints[i] = took.slot;
-    Answered {
-        state,
-        answer: took.answer,
-        wakes: no_wakes(),
-    }
+    let slot = &mut state.endpoints[i];
+    let check = take_check(entry, endpoint.index, unfit, *slot);
+    let answer = take_slot(check, most, slot);
+    Answered::quiet(state, answer)
 }

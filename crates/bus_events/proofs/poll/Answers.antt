@@ -1,7 +1,7 @@
 -- `poll`: 26 and 24, or the next event.
-use Rattle.std.proofs.Common.{◌≡◌, sym, ◌∙◌}
+use Rattle.std.proofs.Common.{◌≡◌, ap, sym, ◌∙◌}
 use Rattle.state.specs.Refusals.{first_refusal}
-use Rattle.bus_events.specs.Poll.{poll_conditions}
+use Rattle.bus_events.specs.Poll.{poll_conditions, poll_numbers}
 use Rattle.bus_events.specs.EventLaws.{poll_refused, poll_made}
 use Rattle.bus_events.proofs.poll.Goals as goal
 use Rattle.bus_events.proofs.poll.Goals.{After-admit-check}
@@ -13,10 +13,12 @@ pub returns-in-Err : goal.returns-in-Err
 returns-in-Err c =
     let a = c.args in
     let o = poll_refused a.state a.events _ (checked (goal.at.returns-in-Err c).After-admit-check ∙ c.in-Err.is) in
-    record { answer = o.0; events = o.1.0; wakes = c.no_wakes-wakes.ensures ∙ o.1.1.0; numbers = o.1.1.1 }
+    let x = c.quiet.ensures in
+    record { answer = x.answer ∙ o.0; events = x.events ∙ o.1.0; wakes = x.wakes ∙ o.1.1.0; numbers = ap poll_numbers x.answer ∙ o.1.1.1 }
 
 pub returns : goal.returns
 returns c =
     let a = c.args in
     let o = poll_made a.state a.events (checked (goal.at.returns c).After-admit-check ∙ c.in_default.is) in
-    record { answer = rw c.next_pending-pending.ensures o.0; events = rw (c.without.ensures, c.next_pending-pending.ensures) o.1.0; wakes = c.no_wakes-wakes.ensures ∙ o.1.1.0; numbers = rw c.next_pending-pending.ensures o.1.1.1 }
+    let x = c.quiet-2.ensures in
+    record { answer = x.answer ∙ rw c.next_pending-pending.ensures o.0; events = x.events ∙ rw (c.without.ensures, c.next_pending-pending.ensures) o.1.0; wakes = x.wakes ∙ o.1.1.0; numbers = ap poll_numbers x.answer ∙ rw c.next_pending-pending.ensures o.1.1.1 }

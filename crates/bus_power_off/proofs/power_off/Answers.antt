@@ -3,6 +3,7 @@ use Rattle.std.proofs.Common.{rules, ◌≡◌, ap, sym, ◌∙◌, arith, lengt
 use Rattle.base.specs.EachLaws.{change_none}
 use Rattle.ops.specs.WroteLaws.{same, none}
 use Rattle.state.specs.declared.State.{State}
+use Rattle.state.specs.Numbers.{check_number}
 use Rattle.state.specs.Setters.{with_slots}
 use Rattle.state_slots.specs.Slots.{off_slot}
 use Rattle.state_slots.specs.SlotsLaws.{change_next_in}
@@ -13,7 +14,8 @@ pub returns-in-Err : goal.returns-in-Err
 returns-in-Err c =
     let a = c.args in
     let o = off_refused (length a.ops.now) a.state a.events _ (sym (rw c.new.ensures at c.in-Err.ensures)) in
-    record { answer = o.0; state = o.1.0; list = same o.1.1.0 (none _ 0); wakes = c.no_wakes.ensures ∙ o.1.1.1.0; number = o.1.1.1.1 }
+    let x = c.quiet.ensures in
+    record { answer = x.answer ∙ o.0; state = x.state ∙ o.1.0; list = same o.1.1.0 (rw x.end (none _ 0)); wakes = x.wakes ∙ o.1.1.1.0; number = ap check_number x.answer ∙ o.1.1.1.1 }
 
 pub loop-i-init : goal.loop-i-init
 loop-i-init c = sym (change_none off_slot _)

@@ -20,4 +20,4 @@ loop-i-preserved c =
 pub returns : goal.returns
 returns c =
     let full : c.loop-i.i ≡ 16 = omega arith in
-    rw (rw full at c.loop-i.invariant, reset_both)
+    rw (c.stages_over.ensures, rw full at c.loop-i.invariant, reset_both)

@@ -9,7 +9,7 @@ use Rattle.control_accept.proofs.accept.Goals as goal
 use Rattle.control_accept.proofs.accept.Goals.{After-admit_stage-check}
 
 checked : (c : After-admit_stage-check) → first_refusal (accept_conditions (length c.args.ops.now) c.args.state c.args.events c.args.generation) ≡ c.admit_stage-check.result
-checked c = sym (rw (c.is_served.ensures, c.sound.ensures) at c.admit_stage-check.ensures)
+checked c = sym (rw (c.is_served.ensures, c.of-lent.ensures, c.sound.ensures) at c.admit_stage-check.ensures)
 
 pub returns-in-Err : goal.returns-in-Err
 returns-in-Err c =

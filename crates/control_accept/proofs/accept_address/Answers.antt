@@ -1,7 +1,7 @@
 -- Refused, no address, or begun.
 use Rattle.std.proofs.Common.{◌≡◌, ap, sym, ◌∙◌, length}
 use Rattle.ops.specs.WroteLaws.{same, none}
-use borrow.Author.Tests.{le-leb, lt-leb}
+use Rattle.std.proofs.lemmas.Bool.{le-leb, lt-leb}
 use Rattle.state.specs.Refusals.{first_refusal}
 use Rattle.control_stage.specs.Stage.{stage_numbers}
 use Rattle.control_accept.specs.Accept.{address_conditions}
@@ -10,7 +10,7 @@ use Rattle.control_accept.proofs.accept_address.Goals as goal
 use Rattle.control_accept.proofs.accept_address.Goals.{After-admit_stage-check}
 
 checked : (c : After-admit_stage-check) → first_refusal (address_conditions (length c.args.ops.now) c.args.state c.args.events c.args.generation c.args.address) ≡ c.admit_stage-check.result
-checked c = sym (rw (c.is_served.ensures, c.sound.ensures) at c.admit_stage-check.ensures)
+checked c = sym (rw (c.is_served.ensures, c.of-lent.ensures, c.sound.ensures) at c.admit_stage-check.ensures)
 
 pub returns-in-Err : goal.returns-in-Err
 returns-in-Err c =

@@ -27,4 +27,5 @@ returns c =
     let f = data_in_fits (length a.ops.now) a.state a.events a.generation a.bytes.now a.address (length a.ep0.now) a.first a.last e in
     let k = c.copy-length.ensures in
     let whole : c.copy-length.result ≡ length a.bytes.now = omega (arith, k.count, f.1.0, f.1.1) in
-    record { answer = o.0; state = rw c.staged.ensures o.1.0; list = same o.1.1.0 (rw (← whole, ← c.next_sequence-sequence.ensures) (search rules)); wakes = c.no_wakes.ensures ∙ o.1.1.1.0; numbers = o.1.1.1.1.1; lent = rw (sym o.1.1.1.1.0) (rw (whole, take-length a.bytes.now) at k.stored) }
+    let x = c.wrote.ensures in
+    record { answer = x.answer ∙ o.0; state = x.state ∙ rw c.staged.ensures o.1.0; list = same o.1.1.0 (rw x.end (rw (← whole, ← c.next_sequence-sequence.ensures) (search rules))); wakes = x.wakes ∙ o.1.1.1.0; numbers = ap stage_numbers x.answer ∙ o.1.1.1.1.1; lent = rw (sym o.1.1.1.1.0) (rw (whole, take-length a.bytes.now) at k.stored) }

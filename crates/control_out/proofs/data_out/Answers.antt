@@ -22,4 +22,5 @@ pub returns : goal.returns
 returns c =
     let a = c.args in
     let o = data_out_made (length a.ops.now) a.state a.events a.generation (checked (goal.at.returns c).After-admit_stage-check ∙ c.in_default.is) in
-    record { answer = o.0; state = rw c.staged.ensures o.1.0; list = same o.1.1.0 (search rules); wakes = c.no_wakes.ensures ∙ o.1.1.1.0; numbers = o.1.1.1.1.1 }
+    let x = c.wrote.ensures in
+    record { answer = x.answer ∙ o.0; state = x.state ∙ rw c.staged.ensures o.1.0; list = same o.1.1.0 (rw x.end (search rules)); wakes = x.wakes ∙ o.1.1.1.0; numbers = ap stage_numbers x.answer ∙ o.1.1.1.1.1 }

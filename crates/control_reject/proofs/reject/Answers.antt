@@ -9,7 +9,7 @@ use Rattle.control_reject.proofs.reject.Goals as goal
 use Rattle.control_reject.proofs.reject.Goals.{After-admit-check}
 
 checked : (c : After-admit-check) → first_refusal (reject_conditions (length c.args.ops.now) c.args.state c.args.events) ≡ c.admit-check.result
-checked c = sym (rw c.sound.ensures at c.admit-check.ensures)
+checked c = sym (rw (c.of-lent.ensures, c.sound.ensures) at c.admit-check.ensures)
 
 pub returns-in-Err : goal.returns-in-Err
 returns-in-Err c =
@@ -29,4 +29,5 @@ pub returns : goal.returns
 returns c =
     let a = c.args in
     let o = reject_made (length a.ops.now) a.state a.events a.generation (checked (goal.at.returns c).After-admit-check ∙ c.in_default.is) (sym c.is_served.ensures ∙ c.if-not-is_served.false) in
-    record { answer = o.0; state = o.1.0; list = same o.1.1.0 (search rules); wakes = c.no_wakes.ensures ∙ o.1.1.1.0; numbers = o.1.1.1.1.1 }
+    let x = c.wrote.ensures in
+    record { answer = x.answer ∙ o.0; state = x.state ∙ o.1.0; list = same o.1.1.0 (rw x.end (search rules)); wakes = x.wakes ∙ o.1.1.1.0; numbers = ap stage_numbers x.answer ∙ o.1.1.1.1.1 }

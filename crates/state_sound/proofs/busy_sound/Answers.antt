@@ -1,6 +1,6 @@
 -- `busy_sound`: IN has two clauses, OUT five.
 use Rattle.state_sound.specs.Clauses.{aligned}
-use borrow.Author.Tests.{eq-eqb, ne_eqb}
+use Rattle.std.proofs.lemmas.Bool.{eq-eqb, ne_eqb}
 use mathlib.Core.Bool.{and-true}
 use Rattle.state_sound.specs.Sound.{busy_clausesb}
 use Rattle.state_sound.proofs.busy_sound.Goals as goal

@@ -1,8 +1,7 @@
--- The numbers before it are passed one after the other.
-use Rattle.std.proofs.Common.{◌+◌}
-use Rattle.tool_lines.specs.Line.{fields}
-use Rattle.tool_scripts.specs.NumbersLaws.{passed, passed_behind}
+-- The word and the numbers before it are passed.
+use Rattle.tool_scripts.specs.NumbersLaws.{number_found, all_passed}
 use Rattle.tool_scripts.proofs.number.Goals as goal
 
-pub loop-preserved : goal.loop-preserved
-loop-preserved c = passed_behind (fields c.args.line.now) _ (c.loop.counter + 1) _ c.loop.invariant (passed _ _ _ c.next-in-loop.ensures.steps)
+pub returns : goal.returns
+returns c =
+    number_found _ c.args.k _ _ _ (rw c.of-fields.ensures at (all_passed _ _ _ _ c.nth.ensures.ran)) c.number.ensures.value c.unwrap_or.ensures

@@ -5,6 +5,7 @@ use Rattle.base.specs.EachLaws.{length_mapped}
 use Rattle.ops.specs.ListsLaws.{◌▹◌, lent}
 use Rattle.ops.specs.WroteLaws.{same}
 use Rattle.state.specs.Fresh.{fresh_slot}
+use Rattle.state.specs.Numbers.{check_number}
 use Rattle.state.specs.Setters.{with_slot}
 use Rattle.state_slots.specs.Slots.{slot_of}
 use Rattle.state_call.specs.OutcomeLaws.{admitted_room}
@@ -34,4 +35,5 @@ returns c =
     let here = get_or-set_same a.state.endpoints c.slot_place-i.result c.begun_slot.result fresh_slot (omega (arith, sixteen (goal.at.returns c).After-slot_place-i, c.slot_place-i.ensures)) in
     let q = rw here at c.queue.ensures in
     let o = begin_stored (length a.ops.now) a.state a.events e.index e.incoming a.piece a.faults.long a.faults.unfit _ _ _ (sym c.begin_check-check.ensures ∙ c.in_default.is) c.slot_place-i.ensures c.begun_slot.ensures q.slot in
-    record { answer = o.0; state = o.1.0; list = same o.1.1.0 (search (lent c.new-list.ensures.numbers c.new-list.ensures.end (c.windows.ensures ▹ q.list), rules)); wakes = c.no_wakes-wakes.ensures ∙ o.1.1.1.0; number = o.1.1.1.1 }
+    let x = c.wrote.ensures in
+    record { answer = x.answer ∙ o.0; state = x.state ∙ o.1.0; list = same o.1.1.0 (rw x.end (search (lent c.new-list.ensures.numbers c.new-list.ensures.end (c.windows.ensures ▹ q.list), rules))); wakes = x.wakes ∙ o.1.1.1.0; number = ap check_number x.answer ∙ o.1.1.1.1 }
