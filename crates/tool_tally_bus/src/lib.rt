@@ -1,12 +1,18 @@
 // The endpoints, the driver's start, power and reset.
 #![tactic(auto)]
 
+ghost use Rattle.std.specs.Prelude.{◌≡◌};
+ghost use Rattle.tool_tally_bus.specs.Bus.{bench_started, bench_on, bench_off, bench_reset};
+
 mod layout;
 
 use ops::OpList;
 use tool_tally_steps::{Bench, pending};
 
-pub fn started() -> Bench {
+#[tactic(auto, unfolding(crate::specs::Bus::bench_started))]
+pub fn started() -> Bench
+    ensures { result ≡ bench_started }
+{
     let fresh = state::fresh::fresh();
     Bench {
         list: [0; 640],
@@ -14,14 +20,23 @@ pub fn started() -> Bench {
     }
 }
 
-pub fn on(bench: &mut Bench) {
+#[tactic(auto, unfolding(crate::specs::Bus::bench_on))]
+pub fn on(bench: &mut Bench)
+    ensures { bench.new ≡ bench_on bench.old }
+{
     bench.state = bus_power_on::power_on(&mut bench.list, bench.state, pending(), 3).state;
 }
 
-pub fn off(bench: &mut Bench) {
+#[tactic(auto, unfolding(crate::specs::Bus::bench_off))]
+pub fn off(bench: &mut Bench)
+    ensures { bench.new ≡ bench_off bench.old }
+{
     bench.state = bus_power_off::power_off(&mut bench.list, bench.state, pending()).state;
 }
 
-pub fn reset(bench: &mut Bench) {
+#[tactic(auto, unfolding(crate::specs::Bus::bench_reset))]
+pub fn reset(bench: &mut Bench)
+    ensures { bench.new ≡ bench_reset bench.old }
+{
     bench.state = bus_reset::bus_reset(&mut OpList::new(&mut bench.list), bench.state);
 }

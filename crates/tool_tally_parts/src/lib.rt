@@ -1,10 +1,16 @@
 // The endpoints in use, and the transfers of endpoint 1: some are taken, one is abandoned, some stay in hand.
 #![tactic(auto)]
 
+ghost use Rattle.std.specs.Prelude.{◌≡◌};
+ghost use Rattle.tool_tally_parts.specs.Parts.{bench_in_use, bench_images, bench_answers};
+
 use tool_tally_steps::{Bench, receiving, sending};
 use transfer_chain::Report;
 
-pub fn in_use(bench: &mut Bench) {
+#[tactic(auto, unfolding(crate::specs::Parts::bench_in_use))]
+pub fn in_use(bench: &mut Bench)
+    ensures { bench.new ≡ bench_in_use bench.old }
+{
     bench.set_enabled(sending(1), true);
     bench.set_enabled(receiving(1), true);
     bench.set_enabled(sending(2), true);
@@ -12,7 +18,10 @@ pub fn in_use(bench: &mut Bench) {
 }
 
 // Slot 3: one taken, one abandoned after its first chain, one left done.
-pub fn images(bench: &mut Bench) {
+#[tactic(auto, unfolding(crate::specs::Parts::bench_images))]
+pub fn images(bench: &mut Bench)
+    ensures { bench.new ≡ bench_images bench.old }
+{
     bench.send(1, 1025);
     bench.take(sending(1));
     bench.begin(sending(1), 300000);
@@ -21,7 +30,10 @@ pub fn images(bench: &mut Bench) {
 }
 
 // Slot 2: one that a short packet ends is taken, one is left busy.
-pub fn answers(bench: &mut Bench) {
+#[tactic(auto, unfolding(crate::specs::Parts::bench_answers))]
+pub fn answers(bench: &mut Bench)
+    ensures { bench.new ≡ bench_answers bench.old }
+{
     bench.receive(1, 4096, 2, 1024);
     let last = Report {
         packets: 9,

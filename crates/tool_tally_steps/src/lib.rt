@@ -2,6 +2,8 @@
 #![tactic(auto)]
 
 ghost use Rattle.std.specs.Prelude.{◌≡◌, true, false};
+ghost use Rattle.bus_endpoint.specs.declared.Order.TheVariants.{Enable, Stall};
+ghost use Rattle.tool_tally_steps.specs.Steps.{power_pending, bench_ordered, bench_begun, bench_taken, bench_abandoned, bench_reported, bench_sent, bench_received};
 
 use ops::OpList;
 use state::{EndpointAddress, Events, State};
@@ -32,7 +34,7 @@ pub fn receiving(index: u8) -> EndpointAddress
 
 // What is pending throughout.
 pub fn pending() -> Events
-    ensures { result.events ≡ 8 }
+    ensures { result ≡ power_pending }
 {
     Events {
         events: state::POWER,
@@ -47,19 +49,28 @@ pub struct Bench {
 }
 
 impl Bench {
-    pub fn set_enabled(&mut self, endpoint: EndpointAddress, enabled: bool) {
+    #[tactic(auto, unfolding(crate::specs::Steps::bench_ordered))]
+    pub fn set_enabled(&mut self, endpoint: EndpointAddress, enabled: bool)
+        ensures { self.new ≡ bench_ordered endpoint.index endpoint.incoming (Enable enabled) self.old }
+    {
         let list = &mut self.list;
         let order = bus_order::endpoint_set_enabled(list, self.state, pending(), endpoint, enabled);
         self.state = order.state;
     }
 
-    pub fn set_stalled(&mut self, endpoint: EndpointAddress, stalled: bool) {
+    #[tactic(auto, unfolding(crate::specs::Steps::bench_ordered))]
+    pub fn set_stalled(&mut self, endpoint: EndpointAddress, stalled: bool)
+        ensures { self.new ≡ bench_ordered endpoint.index endpoint.incoming (Stall stalled) self.old }
+    {
         let list = &mut self.list;
         let order = bus_order::endpoint_set_stalled(list, self.state, pending(), endpoint, stalled);
         self.state = order.state;
     }
 
-    pub fn begin(&mut self, endpoint: EndpointAddress, length: u32) {
+    #[tactic(auto, unfolding(crate::specs::Steps::bench_begun))]
+    pub fn begin(&mut self, endpoint: EndpointAddress, length: u32)
+        ensures { self.new ≡ bench_begun endpoint.index endpoint.incoming length self.old }
+    {
         let piece = Piece {
             address: BUFFER,
             length,
@@ -71,22 +82,33 @@ impl Bench {
         self.state = begun.state;
     }
 
-    pub fn take(&mut self, endpoint: EndpointAddress) {
+    #[tactic(auto, unfolding(crate::specs::Steps::bench_taken))]
+    pub fn take(&mut self, endpoint: EndpointAddress)
+        ensures { self.new ≡ bench_taken endpoint.index endpoint.incoming self.old }
+    {
         self.state = transfer_take::take(self.state, pending(), endpoint, false, u32::MAX).state;
     }
 
-    pub fn abandon(&mut self, endpoint: EndpointAddress) {
+    #[tactic(auto, unfolding(crate::specs::Steps::bench_abandoned))]
+    pub fn abandon(&mut self, endpoint: EndpointAddress)
+        ensures { self.new ≡ bench_abandoned endpoint.index endpoint.incoming self.old }
+    {
         let list = &mut self.list;
         self.state = transfer_abandon::abandon(list, self.state, pending(), endpoint).state;
     }
 
-    pub fn report(&mut self, endpoint: EndpointAddress, report: Report) {
+    #[tactic(auto, unfolding(crate::specs::Steps::bench_reported))]
+    pub fn report(&mut self, endpoint: EndpointAddress, report: Report)
+        ensures { self.new ≡ bench_reported endpoint.index endpoint.incoming report.packets report.last self.old }
+    {
         let mut ops = OpList::new(&mut self.list);
         self.state = transfer_report::report(&mut ops, self.state, endpoint, report);
     }
 
     // Begun, and its first chain reported.
-    pub fn send(&mut self, index: u8, length: u32) {
+    pub fn send(&mut self, index: u8, length: u32)
+        ensures { self.new ≡ bench_sent index length self.old }
+    {
         self.begin(sending(index), length);
         let told = Report {
             packets: 0,
@@ -95,7 +117,9 @@ impl Bench {
         self.report(sending(index), told);
     }
 
-    pub fn receive(&mut self, index: u8, length: u32, packets: u32, last: u32) {
+    pub fn receive(&mut self, index: u8, length: u32, packets: u32, last: u32)
+        ensures { self.new ≡ bench_received index length packets last self.old }
+    {
         self.begin(receiving(index), length);
         self.report(receiving(index), Report { packets, last });
     }
