@@ -14,7 +14,7 @@ fn main(rt: HostRuntime) {
         match reader.next_line(&mut source) {
             Some(Ok(line)) => tool_listing::line(&rt, &mut list, line),
             // A line that is too long can't be read.
-            Some(Err(TooLong)) => tool_listing_answers::unreadable(&rt),
+            Some(Err(TooLong)) => tool_listing_answers::refused(&rt, None),
             None => return,
         }
     }

@@ -12,7 +12,7 @@ use transfer_piece::{Faults, Piece};
 pub fn line(rt: &impl Print, list: &mut [u32; 640], text: &[u8]) {
     match tool_lines::read_line(text) {
         Some(request) => transfer(rt, list, request),
-        None => tool_listing_answers::unreadable(rt),
+        None => tool_listing_answers::refused(rt, None),
     }
 }
 
@@ -22,7 +22,7 @@ fn transfer(rt: &impl Print, list: &mut [u32; 640], request: Request) {
     let begun = begun(rt, list, request, endpoint);
     match begun.answer {
         Ok(()) => reports(rt, list, begun.state, endpoint, request),
-        Err(refusal) => tool_listing_answers::refused(rt, refusal),
+        Err(refusal) => tool_listing_answers::refused(rt, Some(refusal)),
     }
 }
 

@@ -3,13 +3,9 @@
 
 use state::Refusal;
 
-// A line that can't be read.
-pub fn unreadable(rt: &impl Print) {
-    let _ = println!(rt; "refused\t0");
-}
-
-pub fn refused(rt: &impl Print, refusal: Refusal) {
-    let number = u32::from(refusal);
+// A call is refused, or, by 0, a line that can't be read.
+pub fn refused(rt: &impl Print, refusal: Option<Refusal>) {
+    let number = refusal.map_or(0, u32::from);
     let _ = println!(rt; "refused\t{number}");
 }
 
