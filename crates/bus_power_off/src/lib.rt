@@ -8,10 +8,10 @@ ghost use Rattle.state.specs.Numbers.{check_number};
 ghost use Rattle.state.specs.Refusals.{first_refusal};
 ghost use Rattle.bus_power_off.specs.PowerOff.{shut_ops, off_conditions, power_off_call};
 
+use bus_reset::reset_slots;
 use ops::OpList;
 use state::{Events, State};
 use state_call::{ListEntry, Listed};
-use state_slots::reset;
 use state_slots::waking::wake_all;
 
 // The registers of a device that is on are shut down.
@@ -38,9 +38,7 @@ pub fn power_off(ops: &mut [u32], mut state: State, events: Events) -> Listed<()
     }
     let mut list = OpList::new(ops);
     shut(&mut list, state.powered);
-    for (i, slot) in state.endpoints.iter_mut().enumerate() {
-        *slot = reset(*slot, 2 <= i, false);
-    }
+    reset_slots(&mut state.endpoints, false);
     state.powered = false;
     state.setup = None; // a SETUP that nobody has fetched
     Listed {

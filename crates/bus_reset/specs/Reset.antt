@@ -1,13 +1,17 @@
 -- Resets (reference: `reset` of EndpointState, `control_reset` and `bus_reset` of device.rs). Their operations are those
 -- of regs_device.
 -- Assumes nothing.
-use Rattle.std.specs.Prelude.{ℕ, ◌+◌, ◌%◌, ◌^◌, true, false, None}
+use Rattle.std.specs.Prelude.{ℕ, ◌+◌, ◌%◌, ◌^◌, Bool, true, false, ◌&&◌, nat_le, nat_lt, None}
 use Rattle.base.specs.Each.{change}
 use Rattle.state.specs.declared.Slot.{Slot}
 use Rattle.state.specs.declared.State.{State}
 use Rattle.state.specs.Setters.{Control, control_of, with_slots, with_link, with_control, with_wake, unasked}
 use Rattle.state_slots.specs.Slots.{reset_slot, slots_off}
 use Rattle.state_slots.specs.Waking.{add_slot}
+
+-- a slot once its transfer is cut: off, but of endpoint 0 on where `control` is
+abbrev pub slot_after : Bool → ℕ → Slot → Slot
+slot_after control i x = reset_slot x (nat_le 2 i) (control && nat_lt i 2)
 
 -- endpoint 0's slots are on behind a reset
 abbrev pub ep0_slot : ℕ → Slot → Slot

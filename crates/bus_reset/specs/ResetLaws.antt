@@ -1,6 +1,6 @@
 -- The slots behind a bus reset, in one go.
 -- Assumes nothing.
-use Rattle.std.specs.Prelude.{◌≡◌, ℕ, ◌≤◌, List, [], ◌∷◌, nat_le, nat_lt, slice_set, refl}
+use Rattle.std.specs.Prelude.{◌≡◌, ℕ, true, ◌≤◌, List, [], ◌∷◌, slice_set, refl}
 use Rattle.std.proofs.Common.{ap, sym, le-ltb}
 use Rattle.base.specs.Each.{change, change_from}
 use Rattle.base.specs.EachLaws.{change_alike}
@@ -8,13 +8,13 @@ use Rattle.state.specs.declared.Slot.{Slot}
 use Rattle.state.specs.declared.State.{State}
 use Rattle.state.specs.Fresh.{slot_at}
 use Rattle.state.specs.Setters.{with_slot}
-use Rattle.state_slots.specs.Slots.{reset_slot, off_slot, slots_off}
+use Rattle.state_slots.specs.Slots.{off_slot, slots_off}
 use Rattle.state_slots.specs.SlotsLaws.{change_none_of, change_next_in}
-use Rattle.bus_reset.specs.Reset.{ep0_slot}
+use Rattle.bus_reset.specs.Reset.{ep0_slot, slot_after}
 
 -- off, or, of endpoint 0, on
 abbrev pub slot_reset : ℕ → Slot → Slot
-slot_reset i x = reset_slot x (nat_le 2 i) (nat_lt i 2)
+slot_reset = slot_after true
 
 data_slot : (i : ℕ) (x : Slot) → 2 ≤ i → off_slot i x ≡ slot_reset i x
 data_slot i x h = rw (le-ltb i 2 h)

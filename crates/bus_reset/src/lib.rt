@@ -2,13 +2,14 @@
 #![tactic(auto)]
 
 ghost use Rattle.std.specs.Prelude.{◌≡◌};
+ghost use Rattle.base.specs.Each.{change};
 ghost use Rattle.ops.specs.Lists.{Room, Adds};
 ghost use Rattle.regs_device.specs.Device.{bus_reset_ops};
 ghost use Rattle.state.specs.Setters.{control_of, with_control};
-ghost use Rattle.bus_reset.specs.Reset.{ended_control, control_reset, bus_reset_state};
+ghost use Rattle.bus_reset.specs.Reset.{ended_control, slot_after, control_reset, bus_reset_state};
 
 use ops::OpList;
-use state::State;
+use state::{Slot, State};
 use state_slots::reset;
 use state_slots::waking::add_slot;
 
@@ -32,13 +33,21 @@ pub fn control_reset(mut state: State) -> State
     state
 }
 
+// What is in hand is cut; every slot is off, but endpoint 0's on where `control` is.
+#[inline(always)]
+pub fn reset_slots(slots: &mut [Slot; 16], control: bool)
+    ensures { slots.new ≡ change (slot_after control) 16 slots.old }
+{
+    for (i, slot) in slots.iter_mut().enumerate() {
+        *slot = reset(*slot, 2 <= i, control & (i < 2));
+    }
+}
+
 // What a bus reset leaves of the state.
 pub fn reset_state(mut state: State) -> State
     ensures { result ≡ bus_reset_state state }
 {
-    for (i, slot) in state.endpoints.iter_mut().enumerate() {
-        *slot = reset(*slot, 2 <= i, i < 2);
-    }
+    reset_slots(&mut state.endpoints, true);
     state.suspended = false;
     state.low_power = false;
     state.setup = None;
