@@ -8,29 +8,19 @@ ghost use Rattle.state_call.specs.Turn.{turn_at};
 ghost use Rattle.state_call.specs.Outcome.{or_else};
 ghost use Rattle.bus_query.specs.Query.{stalledb, enabledb, stalled_call, enabled_call, query_numbers, query_says};
 
-use state::{EndpointAddress, Events, Refusal, State, Wakes};
-use state_call::Entry;
+use state::{EndpointAddress, Events, State};
+use state_call::{Entry, Said};
 use state_slots::slot_place;
-use state_slots::waking::no_wakes;
-
-#[derive(Clone, Copy)]
-pub struct QueryResult {
-    pub answer: Result<bool, Refusal>,
-    pub wakes: Wakes,
-}
 
 #[tactic(auto, unfolding(state_call::specs::Outcome::or_else))]
-fn answer(entry: Entry, says: bool) -> QueryResult
+fn answer(entry: Entry, says: bool) -> Said<bool>
     ensures answer { result.answer ≡ or_else (first_refusal (turn_at entry [])) Err (Ok says) }
     ensures wakes { result.wakes ≡ no_wakes }
 {
-    QueryResult {
-        answer: entry.admit().and(Ok(says)),
-        wakes: no_wakes(),
-    }
+    Said::quiet(entry.admit().and(Ok(says)))
 }
 
-pub fn is_stalled(state: State, events: Events, endpoint: EndpointAddress) -> QueryResult
+pub fn is_stalled(state: State, events: Events, endpoint: EndpointAddress) -> Said<bool>
     ensures answer { result.answer ≡ (stalled_call state events endpoint.index endpoint.incoming).answer }
     ensures wakes { result.wakes ≡ (stalled_call state events endpoint.index endpoint.incoming).wakes }
     ensures numbers { query_numbers result.answer ≡ query_says state events (stalledb state endpoint.index endpoint.incoming) }
@@ -40,7 +30,7 @@ pub fn is_stalled(state: State, events: Events, endpoint: EndpointAddress) -> Qu
     answer(entry, (endpoint.index < 8) & slot.stalled)
 }
 
-pub fn is_enabled(state: State, events: Events, endpoint: EndpointAddress) -> QueryResult
+pub fn is_enabled(state: State, events: Events, endpoint: EndpointAddress) -> Said<bool>
     ensures answer { result.answer ≡ (enabled_call state events endpoint.index endpoint.incoming).answer }
     ensures wakes { result.wakes ≡ (enabled_call state events endpoint.index endpoint.incoming).wakes }
     ensures numbers { query_numbers result.answer ≡ query_says state events (enabledb state endpoint.index endpoint.incoming) }

@@ -13,6 +13,27 @@ use state::{Awaited, Events, Refusal, State, Wakes};
 use state_slots::waking::no_wakes;
 use state_sound::sound;
 
+// What a call says that leaves the state alone.
+#[derive(Clone, Copy)]
+pub struct Said<A> {
+    pub answer: Result<A, Refusal>,
+    pub wakes: Wakes,
+}
+
+impl<A> Said<A> {
+    // Nobody is woken.
+    #[inline(always)]
+    pub fn quiet(answer: Result<A, Refusal>) -> Said<A>
+        ensures answer { result.answer ≡ answer }
+        ensures wakes { result.wakes ≡ no_wakes }
+    {
+        Said {
+            answer,
+            wakes: no_wakes(),
+        }
+    }
+}
+
 // What a call leaves and says.
 #[derive(Clone, Copy)]
 pub struct Answered<A> {

@@ -15,20 +15,20 @@ use state_events::Event;
 use tool_arguments::byte;
 use world::World;
 
-pub fn raise(rt: &impl Print, world: World, line: &[u8]) -> World
+pub fn raise(rt: &impl Print, mut world: World, line: &[u8]) -> World
     ensures { result ≡ record world { events = (raise_call world.state world.events (byte_at line.now 0)).events } }
 {
-    let raised = bus_events::raise(world.state, world.events, byte(line, 0));
+    let raised = bus_events::raise(world.state, &mut world.events, byte(line, 0));
     tool_answers::answer(rt, raised.answer.map(|()| 0), raised.wakes);
-    world.with_events(raised.events)
+    world
 }
 
-pub fn poll(rt: &impl Print, world: World) -> World
+pub fn poll(rt: &impl Print, mut world: World) -> World
     ensures { result ≡ record world { events = (poll_call world.state world.events).events } }
 {
-    let polled = bus_events::poll(world.state, world.events);
+    let polled = bus_events::poll(world.state, &mut world.events);
     tool_answers::answer(rt, polled.answer.map(event_number), polled.wakes);
-    world.with_events(polled.events)
+    world
 }
 
 // An event's bit, or 0.

@@ -4,10 +4,11 @@
 ghost use Rattle.std.specs.Prelude.{◌≡◌, ◌≤◌, ◌<◌};
 
 use std::io::Read;
+use tool_reader::line_from;
 
 // The buffer's bytes from `from` up to `end` came from the input and haven't been given out.
 #[derive(Drop)]
-pub struct Reader {
+pub struct Input {
     buffer: [u8; 4096],
     from: usize,
     end: usize,
@@ -18,12 +19,12 @@ pub struct Reader {
 #[derive(Clone, Copy, PartialEq, Eq)]
 pub struct TooLong;
 
-impl Reader {
+impl Input {
     pub fn new() -> Self
         ensures from_value { result.from ≡ 0 }
         ensures end_value { result.end ≡ 0 }
     {
-        Reader {
+        Input {
             buffer: [0; 4096],
             from: 0,
             end: 0,
@@ -33,11 +34,9 @@ impl Reader {
     // The next line, its line feed left out. The last one may have none.
     pub fn next_line(&mut self, source: &mut impl Read) -> Option<Result<&[u8], TooLong>> {
         for _ in 0..u64::MAX {
-            let start = self.from;
-            let stop = tool_lines::line_end(&self.buffer[..self.end], start);
-            if stop < self.end {
-                self.from = stop + 1;
-                return Some(Ok(&self.buffer[start..stop]));
+            if let Some(line) = line_from(&self.buffer[..self.end], self.from) {
+                self.from = line.next;
+                return Some(Ok(&self.buffer[line.start..line.stop]));
             }
             self.keep();
             if self.end == self.buffer.len() {
@@ -68,9 +67,8 @@ impl Reader {
             if self.end == 0 {
                 return;
             }
-            let stop = tool_lines::line_end(&self.buffer[..self.end], 0);
-            if stop < self.end {
-                self.from = stop + 1;
+            if let Some(line) = line_from(&self.buffer[..self.end], 0) {
+                self.from = line.next;
                 return;
             }
         }
