@@ -1,5 +1,5 @@
 -- `reset_slots`: one slot after the other.
-use Rattle.std.proofs.Common.{◌≡◌, sym, arith}
+use Rattle.std.proofs.Common.{sym}
 use Rattle.base.specs.EachLaws.{change_none, change_next, change_not_yet}
 use Rattle.state.specs.Fresh.{fresh_slot}
 use Rattle.bus_reset.specs.Reset.{slot_after}
@@ -15,8 +15,3 @@ loop-i-preserved c =
     let f = slot_after c.args.control in
     let e = rw (l.invariant, change_not_yet f l.i slots fresh_slot) at c.reset.ensures in
     rw (l.invariant, e) (change_next f l.i slots fresh_slot)
-
-pub returns : goal.returns
-returns c =
-    let full : c.loop-i.i ≡ 16 = omega arith in
-    rw full at c.loop-i.invariant
