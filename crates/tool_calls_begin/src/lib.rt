@@ -10,9 +10,10 @@ ghost use Rattle.tool_calls_begin.specs.Piece.{piece_of};
 
 use tool_arguments::endpoint;
 use tool_scripts::{flag, number};
-use transfer_piece::{Faults, Piece};
+use transfer_piece::Piece;
 use world::World;
 
+#[tactic(auto, unfolding(usbss::specs::Step::step))]
 pub fn begin(rt: &impl Print, list: &mut [u32; 640], world: World, line: &[u8]) -> World
     ensures world { result ≡ record world { state = (begin_call 640 world.state world.events (byte_at line.now 1) (flag_at line.now 0) (piece_of line.now) false false).state } }
     ensures list { list.new ≡ sets list.old 0 (flat (begin_call 640 world.state world.events (byte_at line.now 1) (flag_at line.now 0) (piece_of line.now) false false).ops) }
@@ -22,8 +23,6 @@ pub fn begin(rt: &impl Print, list: &mut [u32; 640], world: World, line: &[u8]) 
         length: number(line, 3),
         zlp: flag(line, 4),
     };
-    let at = endpoint(line);
-    let faults = Faults::default();
-    let begun = transfer_begin::begin(list, world.state, world.events, at, piece, faults);
+    let begun = usbss::begin(list, world.state, world.events, endpoint(line), piece);
     tool_called::numberless(rt, list, world, begun)
 }

@@ -15,18 +15,20 @@ use state_events::Event;
 use tool_arguments::byte;
 use world::World;
 
+#[tactic(auto, unfolding(usbss::specs::Step::step))]
 pub fn raise(rt: &impl Print, mut world: World, line: &[u8]) -> World
     ensures { result ≡ record world { events = (raise_call world.state world.events (byte_at line.now 0)).events } }
 {
-    let raised = bus_events::raise(world.state, &mut world.events, byte(line, 0));
+    let raised = usbss::raise(world.state, &mut world.events, byte(line, 0));
     tool_answers::answer(rt, raised.answer.map(|()| 0), raised.wakes);
     world
 }
 
+#[tactic(auto, unfolding(usbss::specs::Step::step))]
 pub fn poll(rt: &impl Print, mut world: World) -> World
     ensures { result ≡ record world { events = (poll_call world.state world.events).events } }
 {
-    let polled = bus_events::poll(world.state, &mut world.events);
+    let polled = usbss::poll(world.state, &mut world.events);
     tool_answers::answer(rt, polled.answer.map(event_number), polled.wakes);
     world
 }

@@ -14,10 +14,11 @@ use tool_called::taken;
 use tool_scripts::number;
 use world::World;
 
+#[tactic(auto, unfolding(usbss::specs::Step::step))]
 pub fn setup(rt: &impl Print, world: World) -> World
     ensures { result ≡ record world { state = (setup_call world.state world.events).state } }
 {
-    let called = control_setup::setup(world.state, world.events);
+    let called = usbss::setup(world.state, world.events);
     if let Ok(Some(fetched)) = called.answer {
         found(rt, fetched);
     }
@@ -35,6 +36,7 @@ fn found(rt: &impl Print, fetched: Fetched) {
 }
 
 // A stage has 512 bytes at most, so that more room changes nothing.
+#[tactic(auto, unfolding(usbss::specs::Step::step))]
 pub fn take_out(rt: &impl Print, world: World, line: &[u8]) -> World
     ensures { result ≡ record world { state = (take_out_call world.state world.events (number_at line.now 0) (least (number_at line.now 2) 512) (filled (number_at line.now 3) (replicate 512 0)) world.state.ep0_address).state } }
 {
@@ -43,7 +45,7 @@ pub fn take_out(rt: &impl Print, world: World, line: &[u8]) -> World
     let mut ep0 = [0u8; 512];
     tool_patterns::fill(&mut ep0, number(line, 3));
     let at = world.state.ep0_address;
-    let result = control_take_out::take_out(
+    let result = usbss::take_out(
         world.state,
         world.events,
         number(line, 0),
@@ -57,10 +59,11 @@ pub fn take_out(rt: &impl Print, world: World, line: &[u8]) -> World
     taken(rt, world, result)
 }
 
+#[tactic(auto, unfolding(usbss::specs::Step::step))]
 pub fn take_in(rt: &impl Print, world: World, line: &[u8]) -> World
     ensures { result ≡ record world { state = (take_in_call world.state world.events (number_at line.now 0)).state } }
 {
-    let result = control_take::take_in(world.state, world.events, number(line, 0));
+    let result = usbss::take_in(world.state, world.events, number(line, 0));
     taken(rt, world, result)
 }
 

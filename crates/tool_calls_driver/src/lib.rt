@@ -10,7 +10,6 @@ ghost use Rattle.tool_calls_driver.specs.Driver.{made_or_kept, allocated_by};
 
 mod request;
 
-use driver_allocate::allocate as allocate_endpoint;
 use tool_scripts::{flag, number};
 use world::World;
 
@@ -18,7 +17,7 @@ use world::World;
 pub fn driver(rt: &impl Print, world: World, line: &[u8]) -> World
     ensures { result ≡ record world { driver = made_or_kept world.driver (new_result (number_at line.now 0) (number_at line.now 1)) } }
 {
-    match driver_new::new(number(line, 0), number(line, 1)) {
+    match usbss::new(number(line, 0), number(line, 1)) {
         Ok(driver) => {
             tool_answers::done(rt, 0);
             world.with_driver(driver)
@@ -38,7 +37,7 @@ pub fn allocate(rt: &impl Print, world: World, line: &[u8]) -> World
         return world;
     };
     let mut driver = world.driver;
-    match allocate_endpoint(&mut driver, flag(line, 0), request) {
+    match usbss::allocate(&mut driver, flag(line, 0), request) {
         Ok(config) => tool_answers::done(rt, config.buffer.address),
         Err(_) => tool_answers::not_allocated(rt),
     }

@@ -11,15 +11,17 @@ use interrupt_asks::InterruptResult;
 use state::Reading;
 use world::World;
 
+#[tactic(auto, unfolding(usbss::specs::Step::step))]
 pub fn begin(rt: &impl Print, list: &mut [u32; 640], world: World) -> World
     ensures world { result ≡ left_by world (interrupt_call 640 world.state world.events) }
     ensures list { list.new ≡ sets list.old 0 (flat (interrupt_call 640 world.state world.events).ops) }
 {
-    let result = interrupt_begin::interrupt(list, world.state, world.events);
+    let result = usbss::interrupt(list, world.state, world.events);
     told(rt, list, world, result)
 }
 
 // A line that is no reading's, or whose numbers can't be read, is unfit.
+#[tactic(auto, unfolding(usbss::specs::Step::step))]
 pub fn answer(
     rt: &impl Print,
     list: &mut [u32; 640],
@@ -33,7 +35,7 @@ pub fn answer(
         tool_answers::unfit(rt);
         return world;
     };
-    let result = interrupt::answer(list, world.state, world.events, reading);
+    let result = usbss::answer(list, world.state, world.events, reading);
     told(rt, list, world, result)
 }
 

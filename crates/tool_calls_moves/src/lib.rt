@@ -122,6 +122,7 @@ fn request(asked: Asked, slot: Slot) -> MoveRequest
 }
 
 // A piece of a send is begun; printed are its copy, its records and itself.
+#[tactic(auto, unfolding(usbss::specs::Step::step))]
 fn send(rt: &impl Print, list: &mut [u32; 640], world: World, asked: Asked) -> Listed<Move>
     ensures state { result.state ≡ (send_for world.state world.events asked (slot_for world.state asked)).state }
     ensures list { list.new ≡ sets list.old 0 (flat (send_for world.state world.events asked (slot_for world.state asked)).ops) }
@@ -130,7 +131,7 @@ fn send(rt: &impl Print, list: &mut [u32; 640], world: World, asked: Asked) -> L
     let mut bytes = [0u8; 65536];
     tool_patterns::fill(&mut bytes, asked.pattern);
     let mut own = [0u8; 16384];
-    let result = endpoint_send::send(
+    let result = usbss::send(
         list,
         world.state,
         world.events,
@@ -149,6 +150,7 @@ fn send(rt: &impl Print, list: &mut [u32; 640], world: World, asked: Asked) -> L
 }
 
 // A piece of a receive is begun.
+#[tactic(auto, unfolding(usbss::specs::Step::step))]
 fn receive(rt: &impl Print, list: &mut [u32; 640], world: World, asked: Asked) -> Listed<Move>
     ensures state { result.state ≡ (receive_for world.state world.events asked (slot_for world.state asked)).state }
     ensures list { list.new ≡ sets list.old 0 (flat (receive_for world.state world.events asked (slot_for world.state asked)).ops) }
@@ -156,7 +158,7 @@ fn receive(rt: &impl Print, list: &mut [u32; 640], world: World, asked: Asked) -
     let slot = slot_of(world, asked);
     let bytes = [0u8; 65536];
     let own = [0u8; 16384];
-    let result = endpoint_receive::receive(
+    let result = usbss::receive(
         list,
         world.state,
         world.events,
@@ -172,6 +174,7 @@ fn receive(rt: &impl Print, list: &mut [u32; 640], world: World, asked: Asked) -
 }
 
 // A piece of a send is taken. No byte of it is asked for.
+#[tactic(auto, unfolding(usbss::specs::Step::step))]
 fn sent(world: World, asked: Asked) -> Answered<Move>
     ensures answer { result.answer ≡ (sent_for world.state world.events asked (slot_for world.state asked)).answer }
     ensures state { result.state ≡ (sent_for world.state world.events asked (slot_for world.state asked)).state }
@@ -179,7 +182,7 @@ fn sent(world: World, asked: Asked) -> Answered<Move>
     let slot = slot_of(world, asked);
     let bytes = [0u8; 65536];
     let own = [0u8; 16384];
-    endpoint_sent::sent(
+    usbss::sent(
         world.state,
         world.events,
         asked.endpoint.index,
@@ -190,6 +193,7 @@ fn sent(world: World, asked: Asked) -> Answered<Move>
 }
 
 // A piece of a receive is taken; the own buffer holds the pattern, and the copy out of it is printed.
+#[tactic(auto, unfolding(usbss::specs::Step::step))]
 fn received(rt: &impl Print, world: World, asked: Asked) -> Answered<Move>
     ensures answer { result.answer ≡ (received_for world.state world.events asked (slot_for world.state asked)).answer }
     ensures state { result.state ≡ (received_for world.state world.events asked (slot_for world.state asked)).state }
@@ -198,7 +202,7 @@ fn received(rt: &impl Print, world: World, asked: Asked) -> Answered<Move>
     let mut bytes = [0u8; 65536];
     let mut own = [0u8; 16384];
     tool_patterns::fill(&mut own, asked.pattern);
-    let result = endpoint_received::received(
+    let result = usbss::received(
         world.state,
         world.events,
         asked.endpoint.index,

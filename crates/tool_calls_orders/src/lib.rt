@@ -8,12 +8,13 @@ ghost use Rattle.tool_arguments.specs.Arguments.{byte_at, flag_at};
 ghost use Rattle.bus_endpoint.specs.declared.Order.TheVariants.{Enable, Stall};
 ghost use Rattle.bus_order.specs.Order.{order_call};
 
-use bus_order::{endpoint_set_enabled, endpoint_set_stalled};
 use tool_arguments::endpoint;
 use tool_called::numberless;
 use tool_scripts::flag;
+use usbss::{endpoint_set_enabled, endpoint_set_stalled};
 use world::World;
 
+#[tactic(auto, unfolding(usbss::specs::Step::step))]
 pub fn enable(rt: &impl Print, list: &mut [u32; 640], world: World, line: &[u8]) -> World
     ensures world { result ≡ record world { state = (order_call 640 world.state world.events (byte_at line.now 1) (flag_at line.now 0) (Enable (flag_at line.now 2))).state } }
     ensures list { list.new ≡ sets list.old 0 (flat (order_call 640 world.state world.events (byte_at line.now 1) (flag_at line.now 0) (Enable (flag_at line.now 2))).ops) }
@@ -23,6 +24,7 @@ pub fn enable(rt: &impl Print, list: &mut [u32; 640], world: World, line: &[u8])
     numberless(rt, list, world, result)
 }
 
+#[tactic(auto, unfolding(usbss::specs::Step::step))]
 pub fn stall(rt: &impl Print, list: &mut [u32; 640], world: World, line: &[u8]) -> World
     ensures world { result ≡ record world { state = (order_call 640 world.state world.events (byte_at line.now 1) (flag_at line.now 0) (Stall (flag_at line.now 2))).state } }
     ensures list { list.new ≡ sets list.old 0 (flat (order_call 640 world.state world.events (byte_at line.now 1) (flag_at line.now 0) (Stall (flag_at line.now 2))).ops) }

@@ -9,7 +9,7 @@ use world::World;
 pub fn stalled(rt: &impl Print, world: World, line: &[u8]) -> World
     ensures { result ≡ world }
 {
-    let said = bus_query::is_stalled(world.state, world.events, endpoint(line));
+    let said = usbss::is_stalled(world.state, world.events, endpoint(line));
     tool_answers::answer(rt, said.answer.map(u32::from), said.wakes);
     world
 }
@@ -17,7 +17,7 @@ pub fn stalled(rt: &impl Print, world: World, line: &[u8]) -> World
 pub fn enabled(rt: &impl Print, world: World, line: &[u8]) -> World
     ensures { result ≡ world }
 {
-    let said = bus_query::is_enabled(world.state, world.events, endpoint(line));
+    let said = usbss::is_enabled(world.state, world.events, endpoint(line));
     tool_answers::answer(rt, said.answer.map(u32::from), said.wakes);
     world
 }

@@ -49,15 +49,12 @@ fn reported(rt: &impl Print, list: &mut [u32; 640], world: World, line: &[u8]) -
     next(rt, list, counted, Reading::LastLength(number(line, 3)))
 }
 
-#[tactic(auto, unfolding(crate::specs::Report::world_begun, crate::specs::Report::list_begun))]
+#[tactic(auto, unfolding(crate::specs::Report::world_begun, crate::specs::Report::list_begun, usbss::specs::Step::step))]
 fn begin(list: &mut [u32; 640], world: World) -> World
     ensures world { result ≡ world_begun world }
     ensures list { list.new ≡ list_begun world list.old }
 {
-    left(
-        world,
-        interrupt_begin::interrupt(list, world.state, world.events),
-    )
+    left(world, usbss::interrupt(list, world.state, world.events))
 }
 
 // No flag of the link is set.
@@ -87,12 +84,12 @@ fn transfer(at: EndpointAddress) -> TransferStatus
 }
 
 // A reading, and what is written behind it. Only the end of handling is told.
-#[tactic(auto, unfolding(crate::specs::Report::world_heard, crate::specs::Report::list_heard))]
+#[tactic(auto, unfolding(crate::specs::Report::world_heard, crate::specs::Report::list_heard, usbss::specs::Step::step))]
 fn next(rt: &impl Print, list: &mut [u32; 640], world: World, reading: Reading) -> World
     ensures world { result ≡ world_heard reading world }
     ensures list { list.new ≡ list_heard reading world list.old }
 {
-    let result = interrupt::answer(list, world.state, world.events, reading);
+    let result = usbss::answer(list, world.state, world.events, reading);
     tool_print::operations(rt, list, result.end);
     if let Ok(None) = result.answer {
         tool_answers::answer(rt, Ok(0), result.wakes);

@@ -17,15 +17,17 @@ use tool_scripts::{flag, number};
 use world::World;
 
 // Where the bytes are to go is said when they are taken.
+#[tactic(auto, unfolding(usbss::specs::Step::step))]
 pub fn data_out(rt: &impl Print, list: &mut [u32; 640], world: World, line: &[u8]) -> World
     ensures world { result ≡ record world { state = (data_out_call 640 world.state world.events (number_at line.now 0)).state } }
     ensures list { list.new ≡ sets list.old 0 (flat (data_out_call 640 world.state world.events (number_at line.now 0)).ops) }
 {
-    let result = control_out::data_out(list, world.state, world.events, number(line, 0));
+    let result = usbss::data_out(list, world.state, world.events, number(line, 0));
     numberless(rt, list, world, result)
 }
 
 // 513 bytes are as much too long as any more.
+#[tactic(auto, unfolding(usbss::specs::Step::step))]
 pub fn data_in(rt: &impl Print, list: &mut [u32; 640], world: World, line: &[u8]) -> World
     ensures world { result ≡ record world { state = (data_in_call 640 world.state world.events (number_at line.now 0) (bytes_lent line.now) world.state.ep0_address 512 (flag_at line.now 3) (flag_at line.now 4)).state } }
     ensures list { list.new ≡ sets list.old 0 (flat (data_in_call 640 world.state world.events (number_at line.now 0) (bytes_lent line.now) world.state.ep0_address 512 (flag_at line.now 3) (flag_at line.now 4)).ops) }
@@ -36,7 +38,7 @@ pub fn data_in(rt: &impl Print, list: &mut [u32; 640], world: World, line: &[u8]
     tool_patterns::fill(&mut bytes, number(line, 5));
     let mut ep0 = [0u8; 512];
     let at = world.state.ep0_address;
-    let result = control_in::data_in(
+    let result = usbss::data_in(
         list,
         world.state,
         world.events,
@@ -53,14 +55,16 @@ pub fn data_in(rt: &impl Print, list: &mut [u32; 640], world: World, line: &[u8]
     numberless(rt, list, world, result)
 }
 
+#[tactic(auto, unfolding(usbss::specs::Step::step))]
 pub fn accept(rt: &impl Print, list: &mut [u32; 640], world: World, line: &[u8]) -> World
     ensures world { result ≡ record world { state = (accept_call 640 world.state world.events (number_at line.now 0)).state } }
     ensures list { list.new ≡ sets list.old 0 (flat (accept_call 640 world.state world.events (number_at line.now 0)).ops) }
 {
-    let result = control_accept::accept(list, world.state, world.events, number(line, 0));
+    let result = usbss::accept(list, world.state, world.events, number(line, 0));
     numberless(rt, list, world, result)
 }
 
+#[tactic(auto, unfolding(usbss::specs::Step::step))]
 pub fn accept_address(rt: &impl Print, list: &mut [u32; 640], world: World, line: &[u8]) -> World
     ensures world { result ≡ record world { state = (accept_address_call 640 world.state world.events (number_at line.now 0) (byte_at line.now 1)).state } }
     ensures list { list.new ≡ sets list.old 0 (flat (accept_address_call 640 world.state world.events (number_at line.now 0) (byte_at line.now 1)).ops) }
@@ -68,14 +72,15 @@ pub fn accept_address(rt: &impl Print, list: &mut [u32; 640], world: World, line
     let generation = number(line, 0);
     let address = tool_arguments::byte(line, 1);
     let (state, events) = (world.state, world.events);
-    let result = control_accept::accept_address(list, state, events, generation, address);
+    let result = usbss::accept_address(list, state, events, generation, address);
     numberless(rt, list, world, result)
 }
 
+#[tactic(auto, unfolding(usbss::specs::Step::step))]
 pub fn reject(rt: &impl Print, list: &mut [u32; 640], world: World, line: &[u8]) -> World
     ensures world { result ≡ record world { state = (reject_call 640 world.state world.events (number_at line.now 0)).state } }
     ensures list { list.new ≡ sets list.old 0 (flat (reject_call 640 world.state world.events (number_at line.now 0)).ops) }
 {
-    let result = control_reject::reject(list, world.state, world.events, number(line, 0));
+    let result = usbss::reject(list, world.state, world.events, number(line, 0));
     numberless(rt, list, world, result)
 }

@@ -8,6 +8,7 @@ ghost use Rattle.tool_calls_start.specs.Started.{world_started};
 use tool_scripts::number;
 use world::World;
 
+#[tactic(auto, unfolding(usbss::specs::Step::step))]
 pub fn start(rt: &impl Print, world: World, line: &[u8]) -> World
     ensures { result ≡ cond (ltb (number_at line.now 0) 65536) (world_started world (number_at line.now 0)) world }
 {
@@ -15,7 +16,7 @@ pub fn start(rt: &impl Print, world: World, line: &[u8]) -> World
         tool_answers::unfit(rt);
         return world;
     };
-    let started = driver_start::start(world.state, world.events, world.driver, size);
+    let started = usbss::start(world.state, world.events, world.driver, size);
     tool_answers::answer(rt, started.answer.map(|()| 0), started.wakes);
     world.with_state(started.state).with_events(started.events)
 }

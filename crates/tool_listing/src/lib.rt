@@ -7,7 +7,7 @@ use state_call::Listed;
 use state_slots::{is_busy, slot_at, slot_number};
 use tool_lines::Request;
 use transfer_chain::Report;
-use transfer_piece::{Faults, Piece};
+use transfer_piece::Piece;
 
 pub fn line(rt: &impl Print, list: &mut [u32; 640], text: &[u8]) {
     match tool_lines::read_line(text) {
@@ -40,8 +40,7 @@ fn begun(
         length: request.length,
         zlp: request.incoming && request.zlp,
     };
-    let faults = Faults::default();
-    let begun = transfer_begin::begin(list, state, events, endpoint, piece, faults);
+    let begun = usbss::begin(list, state, events, endpoint, piece);
     tool_print::operations(rt, list, begun.end);
     begun
 }

@@ -10,7 +10,7 @@ use tool_tally_steps::{receiving, sending};
 pub fn driver() -> Driver
     ensures { result ≡ script_driver }
 {
-    let mut driver = driver_new::new(0x200A_0000, 8192).unwrap_or(driver_new::no_driver());
+    let mut driver = usbss::new(0x200A_0000, 8192).unwrap_or(driver_new::no_driver());
     allocate_endpoint(&mut driver, sending(1), EndpointType::Bulk, 1024);
     allocate_endpoint(&mut driver, receiving(1), EndpointType::Bulk, 1024);
     allocate_endpoint(&mut driver, sending(2), EndpointType::Interrupt, 64);
@@ -32,5 +32,5 @@ fn allocate_endpoint(driver: &mut Driver, endpoint: EndpointAddress, kind: Endpo
         max_streams: 0,
         mult: 0,
     };
-    let _ = driver_allocate::allocate(driver, endpoint.incoming, request);
+    let _ = usbss::allocate(driver, endpoint.incoming, request);
 }

@@ -9,29 +9,29 @@ mod layout;
 use ops::OpList;
 use tool_tally_steps::{Bench, pending};
 
-#[tactic(auto, unfolding(crate::specs::Bus::bench_started))]
+#[tactic(auto, unfolding(crate::specs::Bus::bench_started, usbss::specs::Step::step))]
 pub fn started() -> Bench
     ensures { result ≡ bench_started }
 {
     let fresh = state::fresh::fresh();
     Bench {
         list: [0; 640],
-        state: driver_start::start(fresh, pending(), layout::driver(), 512).state,
+        state: usbss::start(fresh, pending(), layout::driver(), 512).state,
     }
 }
 
-#[tactic(auto, unfolding(crate::specs::Bus::bench_on))]
+#[tactic(auto, unfolding(crate::specs::Bus::bench_on, usbss::specs::Step::step))]
 pub fn on(bench: &mut Bench)
     ensures { bench.new ≡ bench_on bench.old }
 {
-    bench.state = bus_power_on::power_on(&mut bench.list, bench.state, pending(), 3).state;
+    bench.state = usbss::power_on(&mut bench.list, bench.state, pending(), 3).state;
 }
 
-#[tactic(auto, unfolding(crate::specs::Bus::bench_off))]
+#[tactic(auto, unfolding(crate::specs::Bus::bench_off, usbss::specs::Step::step))]
 pub fn off(bench: &mut Bench)
     ensures { bench.new ≡ bench_off bench.old }
 {
-    bench.state = bus_power_off::power_off(&mut bench.list, bench.state, pending()).state;
+    bench.state = usbss::power_off(&mut bench.list, bench.state, pending()).state;
 }
 
 #[tactic(auto, unfolding(crate::specs::Bus::bench_reset))]

@@ -8,7 +8,7 @@ ghost use Rattle.tool_tally_steps.specs.Steps.{power_pending, bench_ordered, ben
 use ops::OpList;
 use state::{EndpointAddress, Events, State};
 use transfer_chain::Report;
-use transfer_piece::{Faults, Piece};
+use transfer_piece::Piece;
 
 // Where the buffers of the transfers lie.
 const BUFFER: u32 = 0x200B_0000;
@@ -49,25 +49,25 @@ pub struct Bench {
 }
 
 impl Bench {
-    #[tactic(auto, unfolding(crate::specs::Steps::bench_ordered))]
+    #[tactic(auto, unfolding(crate::specs::Steps::bench_ordered, usbss::specs::Step::step))]
     pub fn set_enabled(&mut self, endpoint: EndpointAddress, enabled: bool)
         ensures { self.new ≡ bench_ordered endpoint.index endpoint.incoming (Enable enabled) self.old }
     {
         let list = &mut self.list;
-        let order = bus_order::endpoint_set_enabled(list, self.state, pending(), endpoint, enabled);
+        let order = usbss::endpoint_set_enabled(list, self.state, pending(), endpoint, enabled);
         self.state = order.state;
     }
 
-    #[tactic(auto, unfolding(crate::specs::Steps::bench_ordered))]
+    #[tactic(auto, unfolding(crate::specs::Steps::bench_ordered, usbss::specs::Step::step))]
     pub fn set_stalled(&mut self, endpoint: EndpointAddress, stalled: bool)
         ensures { self.new ≡ bench_ordered endpoint.index endpoint.incoming (Stall stalled) self.old }
     {
         let list = &mut self.list;
-        let order = bus_order::endpoint_set_stalled(list, self.state, pending(), endpoint, stalled);
+        let order = usbss::endpoint_set_stalled(list, self.state, pending(), endpoint, stalled);
         self.state = order.state;
     }
 
-    #[tactic(auto, unfolding(crate::specs::Steps::bench_begun))]
+    #[tactic(auto, unfolding(crate::specs::Steps::bench_begun, usbss::specs::Step::step))]
     pub fn begin(&mut self, endpoint: EndpointAddress, length: u32)
         ensures { self.new ≡ bench_begun endpoint.index endpoint.incoming length self.old }
     {
@@ -76,25 +76,24 @@ impl Bench {
             length,
             zlp: false,
         };
-        let faults = Faults::default();
         let list = &mut self.list;
-        let begun = transfer_begin::begin(list, self.state, pending(), endpoint, piece, faults);
+        let begun = usbss::begin(list, self.state, pending(), endpoint, piece);
         self.state = begun.state;
     }
 
-    #[tactic(auto, unfolding(crate::specs::Steps::bench_taken))]
+    #[tactic(auto, unfolding(crate::specs::Steps::bench_taken, usbss::specs::Step::step))]
     pub fn take(&mut self, endpoint: EndpointAddress)
         ensures { self.new ≡ bench_taken endpoint.index endpoint.incoming self.old }
     {
-        self.state = transfer_take::take(self.state, pending(), endpoint, false, u32::MAX).state;
+        self.state = usbss::take(self.state, pending(), endpoint).state;
     }
 
-    #[tactic(auto, unfolding(crate::specs::Steps::bench_abandoned))]
+    #[tactic(auto, unfolding(crate::specs::Steps::bench_abandoned, usbss::specs::Step::step))]
     pub fn abandon(&mut self, endpoint: EndpointAddress)
         ensures { self.new ≡ bench_abandoned endpoint.index endpoint.incoming self.old }
     {
         let list = &mut self.list;
-        self.state = transfer_abandon::abandon(list, self.state, pending(), endpoint).state;
+        self.state = usbss::abandon(list, self.state, pending(), endpoint).state;
     }
 
     #[tactic(auto, unfolding(crate::specs::Steps::bench_reported))]

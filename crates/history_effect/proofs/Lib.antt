@@ -1,0 +1,9 @@
+pub mod SlotCases
+pub mod BeginEffects
+pub mod TakeEffects
+pub mod CutEffects
+pub mod DataSlots
+pub mod UnlessEffects
+pub mod OthersEffects
+pub mod ReportSlots
+pub mod AnswerEffects

@@ -1,0 +1,5 @@
+pub mod Follows
+pub mod SendingLaws
+pub mod ReceivingLaws
+pub mod FollowsLaws
+pub mod FitsLaws

@@ -1,0 +1,2 @@
+pub mod Ideal
+pub mod Plan

@@ -1,0 +1,4 @@
+pub mod SoundLaws
+pub mod NotedLaws
+pub mod MemoryLaws
+pub mod RowsLaws

@@ -1,0 +1,16 @@
+pub mod RecordedLaws
+pub mod HeldLaws
+pub mod TouchedLaws
+pub mod EndpointOps
+pub mod LinkOps
+pub mod ControlOps
+pub mod DeviceOps
+pub mod TransferOps
+pub mod BusOps
+pub mod Ep0Ops
+pub mod AskingOps
+pub mod ActionOps
+pub mod ReadingOps
+pub mod CallLaws
+pub mod AnswerOps
+pub mod CallOps

@@ -1,0 +1,4 @@
+pub mod Recorded
+pub mod Held
+pub mod Readings
+pub mod Touched

@@ -1,0 +1,5 @@
+pub mod KeptLaws
+pub mod SameLaws
+pub mod SumLaws
+pub mod DifferenceLaws
+pub mod TallyLaws

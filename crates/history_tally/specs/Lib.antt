@@ -1,0 +1,3 @@
+pub mod Ledger
+pub mod Kept
+pub mod Statement
