@@ -1,4 +1,4 @@
--- Demand 3: what holds of every list of calls, from every sound world.
+-- Demand 3: what is to hold of every list of calls, from every sound world.
 -- Assumes nothing.
 use Rattle.std.specs.Prelude.{ℕ, Bool, true, false, ◌≡◌, List, ◌∷◌, ◌++◌, Some}
 use Rattle.state.specs.declared.Slot.{Slot}
