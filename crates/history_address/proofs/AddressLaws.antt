@@ -8,7 +8,7 @@ use Rattle.usbss.specs.Call.{World, Call}
 use Rattle.usbss.specs.Step.{step}
 use Rattle.history_ops.specs.Held.{held}
 use Rattle.history_ops.specs.Readings.{ends_status, resets_bus}
-use Rattle.history_ops.proofs.HeldLaws.{held_append}
+use Rattle.history_ops.proofs.HeldLaws.{held_append, moves_held}
 use Rattle.history_rows.specs.Rows.{Row, left_by, rows, final}
 use Rattle.history_rows.specs.Memory.{Memory, memory_of}
 use Rattle.history_memory.specs.Remembered.{behind}
@@ -60,7 +60,7 @@ unfolding Holds all_ops holding held
 holds_all p a m [] h = refl
 holds_all p a m (r ∷ later) h =
     let x = bearing m r.call r.outcome.answer in
-    held_append a r.outcome.ops (all_ops later) ∙ rw h.0 (holds_all (waits_behind x p) (holds_behind x p a) (behind m r) later h.1)
+    held_append a r.outcome.ops (all_ops later) ∙ rw (moves_held h.0) (holds_all (waits_behind x p) (holds_behind x p a) (behind m r) later h.1)
 
 pub register_final : (w : World) (cs : List Call) (a : ℕ) → held a (all_ops (rows w cs)) ≡ holding w.state.address a (memory_of w.state) (rows w cs)
 register_final w cs a = holds_all w.state.address a (memory_of w.state) (rows w cs) (every_address w cs a)

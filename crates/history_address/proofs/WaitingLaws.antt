@@ -29,6 +29,7 @@ use Rattle.bus_order.specs.Order.{order_call}
 use Rattle.bus_query.specs.Query.{stalled_call, enabled_call}
 use Rattle.bus_events.specs.Raise.{raise_call}
 use Rattle.bus_events.specs.Poll.{poll_call}
+use Rattle.bus_wakeup.specs.Wakeup.{wakeup_call}
 use Rattle.transfer_step.specs.declared.Step.{Step}
 use Rattle.transfer_step.specs.declared.Step.TheVariants.{Ignored, GoesOn, Completes}
 use Rattle.transfer_step.specs.Step.{report_step}
@@ -58,7 +59,7 @@ use Rattle.interrupt_readings.specs.Heard.{heard_link}
 use Rattle.interrupt_followers.specs.Followers.{heard_transfer}
 use Rattle.interrupt.specs.Interrupt.{answer_conditions, link_before, link_after, link_settled, transfer_settled, answer_call}
 use Rattle.interrupt_laws.specs.ReadingLaws.{EachReading, each_reading, answered_at, tested_reading}
-use Rattle.usbss.specs.Call.{World, Call, Start, PowerOn, PowerOff, Ordered, IsStalled, IsEnabled, Raise, Poll, Begin, Take, Abandon, Send, Sent, Receive, Received, Setup, DataOut, DataIn, Accept, AcceptAddress, Reject, TakeOut, TakeIn, Interrupt, Answer}
+use Rattle.usbss.specs.Call.{World, Call, Start, PowerOn, PowerOff, Ordered, IsStalled, IsEnabled, Raise, Poll, Wakeup, Begin, Take, Abandon, Send, Sent, Receive, Received, Setup, DataOut, DataIn, Accept, AcceptAddress, Reject, TakeOut, TakeIn, Interrupt, Answer}
 use Rattle.usbss.specs.Step.{step}
 use Rattle.history_ops.specs.Readings.{ends_status, resets_bus}
 use Rattle.history_ops.proofs.ReadingOps.{link_resets}
@@ -217,7 +218,7 @@ module _ (s : State) (v : Events) where
 
 -- What a call leaves waiting in the state is what its bearing leaves waiting.
 pub waiting_step : (w : World) (c : Call) → (step w c).state.address ≡ waits_behind (bearing (memory_of w.state) c (step w c).answer) w.state.address
-unfolding step bearing start_call power_on_call power_off_call order_call stalled_call enabled_call raise_call poll_call begin_call take_call abandon_call send_call sent_call receive_call received_call setup_call data_out_call data_in_call accept_call accept_address_call reject_call take_in_call take_out_call interrupt_call
+unfolding step bearing start_call power_on_call power_off_call order_call stalled_call enabled_call raise_call poll_call wakeup_call begin_call take_call abandon_call send_call sent_call receive_call received_call setup_call data_out_call data_in_call accept_call accept_address_call reject_call take_in_call take_out_call interrupt_call
 waiting_step w (Start driver size) = untold _ w.state w.events _ refl
 waiting_step w (PowerOn room revision) =
     told _ w.state w.events _ (λ a. only (accepted a && not w.state.powered) Resets) (λ r. refl) (λ h. on_told w.state w.events w.state.powered revision)
@@ -227,6 +228,7 @@ waiting_step w (IsStalled at) = untold _ w.state w.events _ refl
 waiting_step w (IsEnabled at) = untold _ w.state w.events _ refl
 waiting_step w (Raise event) = untold _ w.state w.events _ refl
 waiting_step w Poll = untold _ w.state w.events _ refl
+waiting_step w (Wakeup room) = untold _ w.state w.events _ refl
 waiting_step w (Begin room at piece) = untold _ w.state w.events _ refl
 waiting_step w (Take at) = untold _ w.state w.events _ refl
 waiting_step w (Abandon room at) = untold _ w.state w.events _ refl

@@ -1,15 +1,17 @@
 -- When a device address takes hold (USB 3.2, 9.4.6: behind the status stage): what each call is to the address, by the call, its
--- answer and what the calls before have told. Of the state nothing is looked at, least of all the address that it has waiting.
+-- answer and what the calls before have told. Of the state nothing is looked at, least of all the address that it has waiting. A
+-- call's operations take `dev_addr` from what it held to what it holds behind the call in one step, if at all: it holds no third
+-- address on the way.
 -- Assumes nothing.
-use Rattle.std.specs.Prelude.{ℕ, Bool, true, false, not, ◌&&◌, cond, List, [], ◌∷◌, ◌++◌, ◌≡◌, Option, Some, None, Result, Ok, Err}
+use Rattle.std.specs.Prelude.{ℕ, Bool, true, false, not, ◌&&◌, cond, List, [], ◌∷◌, ◌++◌, Option, Some, None, Result, Ok, Err}
 use Rattle.ops.specs.Ops.{Op}
 use Rattle.state.specs.declared.Awaited.{Awaited}
 use Rattle.state.specs.declared.Refusal.{Refusal}
 use Rattle.control_stage.specs.declared.Stage.{Stage}
 use Rattle.control_stage.specs.declared.Stage.TheVariants as stage
 use Rattle.interrupt_readings.specs.Matched.{Matched, other, link_flags, link_status, capability, term_status, message, warm_status, transfer_status, setup_bytes, ep0_length, ep0_sequence, chain_packets, last_length, matched_as}
-use Rattle.usbss.specs.Call.{Call, Start, PowerOn, PowerOff, Ordered, IsStalled, IsEnabled, Raise, Poll, Begin, Take, Abandon, Send, Sent, Receive, Received, Setup, DataOut, DataIn, Accept, AcceptAddress, Reject, TakeOut, TakeIn, Interrupt, Answer, Answers}
-use Rattle.history_ops.specs.Held.{held, due}
+use Rattle.usbss.specs.Call.{Call, Start, PowerOn, PowerOff, Ordered, IsStalled, IsEnabled, Raise, Poll, Wakeup, Begin, Take, Abandon, Send, Sent, Receive, Received, Setup, DataOut, DataIn, Accept, AcceptAddress, Reject, TakeOut, TakeIn, Interrupt, Answer, Answers}
+use Rattle.history_ops.specs.Held.{Moves, due}
 use Rattle.history_ops.specs.Readings.{ends_status, resets_bus}
 use Rattle.history_rows.specs.Rows.{Row}
 use Rattle.history_rows.specs.Memory.{Memory, accepted}
@@ -87,6 +89,7 @@ bearing m (IsStalled at) a = Nothing
 bearing m (IsEnabled at) a = Nothing
 bearing m (Raise event) a = Nothing
 bearing m Poll a = Nothing
+bearing m (Wakeup room) a = Nothing
 bearing m (Begin room at piece) a = Nothing
 bearing m (Take at) a = Nothing
 bearing m (Abandon room at) a = Nothing
@@ -122,9 +125,10 @@ unfoldable pub all_ops : List Row → List Op
 all_ops [] = []
 all_ops (r ∷ later) = r.outcome.ops ++ all_ops later
 
--- an address waits or none, `dev_addr` holds a, and m is remembered: so of each row's operations, and of the later ones'
+-- An address waits or none, `dev_addr` holds a, and m is remembered: so of each row's operations, and of the later ones'. Behind each
+-- of a row's operations in turn it holds what it held before the row, and from one of them on what it holds behind the row.
 unfoldable pub Holds : Option ℕ → ℕ → Memory → List Row → Type 0
 Holds pending a m [] = Unit
 Holds pending a m (r ∷ later) =
     let x = bearing m r.call r.outcome.answer in
-    (held a r.outcome.ops ≡ holds_behind x pending a) × Holds (waits_behind x pending) (holds_behind x pending a) (behind m r) later
+    Moves a (holds_behind x pending a) r.outcome.ops × Holds (waits_behind x pending) (holds_behind x pending a) (behind m r) later

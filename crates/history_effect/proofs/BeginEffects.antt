@@ -21,7 +21,7 @@ use Rattle.endpoint_choice.specs.declared.MoveRequest.{MoveRequest}
 use Rattle.endpoint_choice.specs.Choice.{asked_of, longer, own_unfit, send_piece, send_begins, receive_piece}
 use Rattle.endpoint_send.specs.Send.{send_conditions, send_made, send_call}
 use Rattle.endpoint_receive.specs.Receive.{receive_conditions, receive_call}
-use Rattle.history_follows.specs.FitsLaws.{accepted_fits}
+use Rattle.history_follows.proofs.FitsLaws.{accepted_fits}
 use Rattle.history_ops.specs.Recorded.{recorded}
 use Rattle.history_ops.proofs.RecordedLaws.{silent_none, handed_here, handed_there}
 use Rattle.history_ops.proofs.TransferOps.{begun_recorded}

@@ -7,3 +7,4 @@ pub mod UnlessEffects
 pub mod OthersEffects
 pub mod ReportSlots
 pub mod AnswerEffects
+pub mod EveryEffect

@@ -17,6 +17,7 @@ use Rattle.bus_laws.specs.PowerKeeps.{reset_cut, off_cut}
 use Rattle.bus_query.specs.Query.{query_conditions, stalled_call, enabled_call}
 use Rattle.bus_events.specs.Raise.{raise_conditions, raise_call}
 use Rattle.bus_events.specs.Poll.{poll_conditions, poll_call}
+use Rattle.bus_wakeup.specs.Wakeup.{wakeup_conditions, wakeup_call}
 use Rattle.regs_device.specs.Device.{power_on_ops}
 use Rattle.regs_control.specs.Control.{ep0_stall_ops}
 use Rattle.control_stage.specs.Stage.{ep0_unfit, servedb, staged_slot, begun, unanswered, in_stage}
@@ -33,8 +34,8 @@ use Rattle.history_ops.specs.Recorded.{recorded}
 use Rattle.history_ops.proofs.RecordedLaws.{silent_none}
 use Rattle.history_ops.proofs.DeviceOps.{power_on_silent}
 use Rattle.history_ops.proofs.BusOps.{shut_silent}
-use Rattle.history_ops.proofs.CallOps.{raise_quiet, poll_quiet, stalled_quiet, enabled_quiet, interrupt_quiet, setup_call_quiet, take_in_quiet, take_out_quiet, data_out_quiet, data_in_quiet, accept_call_quiet, accept_address_quiet, reject_quiet}
-use Rattle.usbss.specs.Call.{World, Start, PowerOn, PowerOff, IsStalled, IsEnabled, Raise, Poll, Setup, DataOut, DataIn, Accept, AcceptAddress, Reject, TakeOut, TakeIn, Interrupt}
+use Rattle.history_ops.proofs.CallOps.{raise_quiet, poll_quiet, wakeup_quiet, stalled_quiet, enabled_quiet, interrupt_quiet, setup_call_quiet, take_in_quiet, take_out_quiet, data_out_quiet, data_in_quiet, accept_call_quiet, accept_address_quiet, reject_quiet}
+use Rattle.usbss.specs.Call.{World, Start, PowerOn, PowerOff, IsStalled, IsEnabled, Raise, Poll, Wakeup, Setup, DataOut, DataIn, Accept, AcceptAddress, Reject, TakeOut, TakeIn, Interrupt}
 use Rattle.usbss.specs.Step.{step}
 use Rattle.history_effect.specs.Seen.{Cuts, only, seen}
 use Rattle.history_effect.specs.Effect.{EffectAs, Effect}
@@ -68,6 +69,10 @@ module _ (w : World) (e : ℕ) (incoming : Bool) where
   pub poll_effect : Effect e incoming w Poll
   unfolding step seen poll_call
   poll_effect = unless_passes s v e incoming (poll_conditions s v) _ (poll_quiet s v).silent refl
+
+  pub wakeup_effect : (room : ℕ) → Effect e incoming w (Wakeup room)
+  unfolding step seen wakeup_call
+  wakeup_effect room = unless_passes s v e incoming (wakeup_conditions room s v) _ (wakeup_quiet room s v).silent refl
 
   pub setup_effect : Effect e incoming w Setup
   unfolding step seen setup_call

@@ -21,7 +21,7 @@ use Rattle.history_ideal.specs.Ideal.{Report}
 use Rattle.history_ops.specs.Recorded.{same_slot}
 use Rattle.history_ops.specs.Readings as ops
 use Rattle.history_ops.specs.Readings.{report_of, resets_bus}
-use Rattle.usbss.specs.Call.{World, Call, Start, PowerOn, PowerOff, Ordered, IsStalled, IsEnabled, Raise, Poll, Begin, Take, Abandon, Send, Sent, Receive, Received, Setup, DataOut, DataIn, Accept, AcceptAddress, Reject, TakeOut, TakeIn, Interrupt, Answer, Answers}
+use Rattle.usbss.specs.Call.{World, Call, Start, PowerOn, PowerOff, Ordered, IsStalled, IsEnabled, Raise, Poll, Wakeup, Begin, Take, Abandon, Send, Sent, Receive, Received, Setup, DataOut, DataIn, Accept, AcceptAddress, Reject, TakeOut, TakeIn, Interrupt, Answer, Answers}
 use Rattle.history_rows.specs.Memory.{Memory, accepted}
 
 -- what a take comes to: refused, busy, or so many bytes
@@ -92,6 +92,7 @@ seen e incoming m w (IsStalled at) o = Nothing
 seen e incoming m w (IsEnabled at) o = Nothing
 seen e incoming m w (Raise event) o = Nothing
 seen e incoming m w Poll o = Nothing
+seen e incoming m w (Wakeup room) o = Nothing
 seen e incoming m w (Begin room at p) o = own e incoming at.index at.incoming (only (accepted o.answer) (Begins p))
 seen e incoming m w (Take at) o = own e incoming at.index at.incoming (takes m false (λ p. any_length) (took_busy o.answer) (λ p t. o.answer ≡ t))
 seen e incoming m w (Abandon room at) o = own e incoming at.index at.incoming (only (accepted o.answer) Cuts)

@@ -1,5 +1,1 @@
 pub mod Follows
-pub mod SendingLaws
-pub mod ReceivingLaws
-pub mod FollowsLaws
-pub mod FitsLaws

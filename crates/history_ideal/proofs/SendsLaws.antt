@@ -4,13 +4,13 @@ use Rattle.std.specs.Prelude.{ℕ, zero, suc, ◌+◌, ◌*◌, ◌-◌, ◌/◌
 use Rattle.std.proofs.Common.{sym, ap, ◌∙◌, mul-le-mul_right, div-add-mod', arith, leb-true, eqb-true, le-ltb, lt-ltb, ne_eqb, eq-eqb}
 use Rattle.std.proofs.Math.Nat.{mul_assoc, add-mod_right, mul-mod_left}
 use Rattle.std.proofs.lemmas.Bool.{le-leb, lt-leb}
-use Rattle.std.proofs.lemmas.List.{append-nil, flat_map_more, replicate-append-replicate, append_assoc, length-append}
+use Rattle.std.proofs.lemmas.List.{append-nil, flat_map_more, replicate_more, replicate-append-replicate, append_assoc, length-append}
 use Rattle.std.proofs.lemmas.List.Sums.{sum_by-append}
-use Rattle.std.proofs.lemmas.Nat.{mod-mul-add}
+use Rattle.std.proofs.lemmas.Nat.{div-mul-add, mod-mul-add}
 use Rattle.base.specs.Ceil.{div_ceil}
 use Rattle.base.specs.CeilLaws.{below_ceil, ceil_above}
 use Rattle.history_ideal.specs.Ideal.{Chain, Sends, Report, full, chain_count, data_chain, start_of, bytes_of, chain_in, ideal_in}
-use Rattle.history_ideal.specs.Plan.{handed, chains_of, begins_at, packets_in, before, span, read_by, read_all, packets_of, packet_lengths, FairSend, Closed, short_end, closed_once, SendsAll}
+use Rattle.history_ideal.specs.Plan.{handed, chains_of, begins_at, packets_in, before, span, read_by, read_all, packets_of, packet_lengths, data_lengths, all_lengths, FairSend, Closed, short_end, closed_once, SendsAll}
 use Rattle.history_ideal.proofs.RoundingLaws.{split, ceil_within, ceil_covers}
 use Rattle.history_ideal.proofs.CountLaws.{packets_some, packets_none, full_some, count_some, count_covers, count_none, count_flag, count_clear, count_zeros}
 use Rattle.history_ideal.proofs.PacketsLaws.{span_add, span_none, zeros, before_last, last_within, data_read, data_fair, data_packets, data_zeros, whole_packets, none_read, none_fair, none_packets, none_zeros}
@@ -83,11 +83,15 @@ module _ (lim : ℕ) (one : 0 < lim) (m l : ℕ) (pos : 0 < m) (own a : ℕ) whe
   IsWhole : ℕ → Type 0
   IsWhole k = (q : ℕ) × (packets_of m (chain_in lim own m a l k) ≡ replicate q m)
 
-  full_whole : (k : ℕ) → suc k * full lim m ≤ l → IsWhole k
-  unfolding IsWhole full bytes_of
-  full_whole k h =
+  full_packets : (k : ℕ) → suc k * full lim m ≤ l → packets_of m (chain_in lim own m a l k) ≡ replicate lim m
+  unfolding full bytes_of
+  full_packets k h =
       let e : bytes_of lim m l k ≡ lim * m = omega (arith, some_full) in
-      (lim, ap (packets_of m) (chain_data k (omega (arith, some_full))) ∙ rw e (whole_packets lim m pos _ lim one))
+      ap (packets_of m) (chain_data k (omega (arith, some_full))) ∙ rw e (whole_packets lim m pos _ lim one)
+
+  full_whole : (k : ℕ) → suc k * full lim m ≤ l → IsWhole k
+  unfolding IsWhole
+  full_whole k h = (lim, full_packets k h)
 
   rest_whole : (k : ℕ) → l % m ≡ 0 → k * full lim m < l → l ≤ suc k * full lim m → IsWhole k
   unfolding IsWhole full bytes_of
@@ -212,6 +216,84 @@ module _ (lim : ℕ) (one : 0 < lim) (m l : ℕ) (pos : 0 < m) (own a : ℕ) whe
       some true q h = rw (count_flag lim one m l pos h) (closed_flag h (eqb-true (l % m) 0 q))
       some false q h = rw (count_clear lim one m l pos h, ne_eqb l 0 (λ e. omega (arith, e, h))) (closed_clear h)
 
+  -- ---- the packets, one by one
+
+  full_to : (n : ℕ) → n * full lim m ≤ l → packet_lengths m (chains_to n) ≡ replicate (n * lim) m
+  unfolding chains_to
+  full_to zero h = let e : 0 * lim ≡ 0 = omega arith in rw e refl
+  full_to (suc n) h =
+      let e : n * lim + lim ≡ suc n * lim = omega arith in
+      sym (flat_map_more (packets_of m) [] (chains_to n) _)
+      ∙ rw (full_to n (omega (arith, h)), full_packets n h) (replicate-append-replicate (n * lim) lim m ∙ ap (λ (q : ℕ). replicate q m) e)
+
+  -- n whole packets and one of y bytes, which may be whole as well
+  whole_and_rest : (n y : ℕ) → l ≡ n * m + y → 0 < y → y ≤ m → replicate n m ++ y ∷ [] ≡ data_lengths m l
+  whole_and_rest n y sum some most =
+      split m y
+      (λ t.
+      let e : y ≡ m = omega (arith, t, most) in
+      let total : l ≡ suc n * m + 0 = omega (arith, sum, e) in
+      let q : l / m ≡ suc n = rw total (div-mul-add (suc n) m 0 pos) in
+      let z : l % m ≡ 0 = rw total (mod-mul-add (suc n) m 0 pos) in
+      let more : n + 1 ≡ suc n = omega arith in
+      rw (e, q, z) (replicate_more n m ∙ ap (λ (k : ℕ). replicate k m) more ∙ sym (append-nil (replicate (suc n) m))))
+      (λ t.
+      let q : l / m ≡ n = rw sum (div-mul-add n m y t) in
+      let z : l % m ≡ y = rw sum (mod-mul-add n m y t) in
+      let b : eqb y 0 ≡ false = ne_eqb y 0 (λ g. omega (arith, g, some)) in
+      rw (q, z, b) refl)
+
+  last_data : (k : ℕ) → k * full lim m < l → l ≤ suc k * full lim m → packet_lengths m (chains_to (suc k)) ≡ data_lengths m l
+  unfolding chains_to full bytes_of
+  last_data k h g =
+      let b = start_of lim m a k in
+      let x = bytes_of lim m l k in
+      let c = div_ceil x m in
+      let y = x - (c - 1) * m in
+      let some = bytes_some k h in
+      let before = before_last lim m pos b x some.0 some.1 in
+      let past : k * lim * m ≡ k * (lim * m) = mul_assoc k lim m in
+      let sum : l ≡ (k * lim + (c - 1)) * m + y = omega (arith, past, before, h, g) in
+      let lengths : packets_of m (chain_in lim own m a l k) ≡ replicate (c - 1) m ++ y ∷ [] =
+      ap (packets_of m) (chain_data k h) ∙ data_packets lim m pos b x some.0 some.1 in
+      sym (flat_map_more (packets_of m) [] (chains_to k) _)
+      ∙ rw (full_to k (omega (arith, h)), lengths, sym (append_assoc (replicate (k * lim) m) (replicate (c - 1) m) (y ∷ [])), replicate-append-replicate (k * lim) (c - 1) m)
+      (whole_and_rest (k * lim + (c - 1)) y sum (omega (arith, before)) (last_within lim m pos b x some.0 some.1))
+
+  data_to : 0 < l → packet_lengths m (chains_to (suc (div_ceil l (full lim m) - 1))) ≡ data_lengths m l
+  data_to h =
+      let some = ceil_above l (full lim m) 0 some_full (omega (arith, h)) in
+      let last : suc (div_ceil l (full lim m) - 1) ≡ div_ceil l (full lim m) = omega (arith, some) in
+      last_data (div_ceil l (full lim m) - 1) (below_ceil l (full lim m) _ some_full (omega (arith, some))) (rw last (ceil_covers l (full lim m) some_full))
+
+  -- an empty packet behind n chains
+  empty_to : (n : ℕ) → l ≤ n * full lim m → packet_lengths m (chains_to (suc n)) ≡ packet_lengths m (chains_to n) ++ 0 ∷ []
+  unfolding chains_to
+  empty_to n h =
+      let lengths : packets_of m (chain_in lim own m a l n) ≡ 0 ∷ [] = ap (packets_of m) (chain_none n h) ∙ none_packets lim one own m pos in
+      sym (flat_map_more (packets_of m) [] (chains_to n) _) ∙ rw lengths refl
+
+  lengths_to : (f : Bool) → packet_lengths m (chains_to (chain_count lim m l f)) ≡ all_lengths m l f
+  unfolding chains_to
+  lengths_to f = split l 0 (λ h. rw (count_none lim one m l pos f h) (nothing f (omega (arith, h)))) (some f)
+    where
+      nothing : (g : Bool) → l ≡ 0 → packet_lengths m (chains_to (suc 0)) ≡ all_lengths m l g
+      nothing g e =
+          let total : l ≡ 0 * m + 0 = omega (arith, e) in
+          let q : l / m ≡ 0 = rw total (div-mul-add 0 m 0 pos) in
+          let z : l % m ≡ 0 = rw total (mod-mul-add 0 m 0 pos) in
+          empty_to 0 (omega (arith, e)) ∙ rw (q, z, eq-eqb l 0 e) refl
+
+      some : (g : Bool) → 0 < l → packet_lengths m (chains_to (chain_count lim m l g)) ≡ all_lengths m l g
+      some true h =
+          let least = ceil_above l (full lim m) 0 some_full (omega (arith, h)) in
+          let last : suc (div_ceil l (full lim m) - 1) ≡ div_ceil l (full lim m) = omega (arith, least) in
+          rw (count_flag lim one m l pos h, ne_eqb l 0 (λ e. omega (arith, e, h)))
+          (empty_to (div_ceil l (full lim m)) (ceil_covers l (full lim m) some_full)
+          ∙ ap (λ (n : ℕ). packet_lengths m (chains_to n) ++ 0 ∷ []) (sym last) ∙ ap (λ (t : List ℕ). t ++ 0 ∷ []) (data_to h))
+      some false h =
+          rw (count_clear lim one m l pos h, ne_eqb l 0 (λ e. omega (arith, e, h))) (data_to h ∙ sym (append-nil (data_lengths m l)))
+
   module _ (f : Bool) where
     all_of : (rs : List Report) → chains_of (ideal_in lim own m a l f) rs ≡ chains_to (min (suc (length rs)) (chain_count lim m l f))
     unfolding chains_of handed ideal_in chains_to
@@ -268,6 +350,7 @@ module _ (lim : ℕ) (one : 0 < lim) (m l : ℕ) (pos : 0 < m) (own a : ℕ) whe
           fair = λ rs h. chain_fair (length rs);
           many = λ rs h. rw (done_of rs h) (length_to (chain_count lim m l f));
           exactly = λ rs. refl;
+          packets = λ rs h. rw (done_of rs h) (lengths_to f);
           one_empty = λ rs h. rw (done_of rs h) (zeros_to (chain_count lim m l f) ∙ count_zeros lim one m l pos f);
           closed = λ rs h q. rw (done_of rs h) (closed_to f q);
         }

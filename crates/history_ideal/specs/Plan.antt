@@ -60,6 +60,14 @@ unfoldable pub FairSend : ℕ → ℕ → Chain → Type 0
 FairSend lim m (Sends b p x) = (1 ≤ p) × (p ≤ lim) × (x ≤ m) × (x ≡ 0 → p ≡ 1)
 FairSend lim m (Receives b p) = ⊥
 
+-- the lengths of the packets of l bytes: whole ones, and what is left in one behind them
+abbrev pub data_lengths : ℕ → ℕ → List ℕ
+data_lengths m l = replicate (l / m) m ++ cond (l % m == 0) [] (l % m ∷ [])
+
+-- and of all packets: behind those of the bytes the empty one, where there are no bytes or the flag asks for it
+abbrev pub all_lengths : ℕ → ℕ → Bool → List ℕ
+all_lengths m l f = data_lengths m l ++ cond (l == 0 || f) (0 ∷ []) []
+
 -- The packets of a transfer that is closed as USB has it: a packet of less than m bytes ends the transfer, so none follows one, and
 -- the last one is such a packet where `short` says so.
 pub record Closed (m : ℕ) (short : Bool) (lengths : List ℕ) : Type 0 where
@@ -94,7 +102,9 @@ pub record SendsAll (lim m a l : ℕ) (f : Bool) (i : Ideal) : Type 0 where
   -- N chains, and done exactly from the N-th report on
   pub many : (rs : List Report) → i.done rs ≡ true → length (chains_of i rs) ≡ chain_count lim m l f
   pub exactly : (rs : List Report) → i.done rs ≡ nat_le (chain_count lim m l f) (length rs)
-  -- one empty packet, if there are no bytes or the flag asks for it, else none
+  -- its packets, in sequence, are these
+  pub packets : (rs : List Report) → i.done rs ≡ true → packet_lengths m (chains_of i rs) ≡ all_lengths m l f
+  -- so there is one empty packet, if there are no bytes or the flag asks for it, else none
   pub one_empty : (rs : List Report) → i.done rs ≡ true → count_by (λ n. n == 0) (packet_lengths m (chains_of i rs)) ≡ cond (l == 0 || f) 1 0
   -- no packet follows a short one, and the last one is short where it has to be
   pub closed : (rs : List Report) → i.done rs ≡ true → closed_once m l f ≡ true → Closed m (short_end m l f) (packet_lengths m (chains_of i rs))

@@ -1,4 +1,5 @@
 pub mod SoundLaws
+pub mod SequenceLaws
 pub mod NotedLaws
 pub mod MemoryLaws
-pub mod RowsLaws
+pub mod AsksLaws

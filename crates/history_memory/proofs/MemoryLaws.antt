@@ -1,15 +1,16 @@
 -- What the state has of power, revision and an interrupt in hand is what the calls and their answers tell: behind each call,
 -- refused or not, and behind every list of calls. No state need be sound.
 -- Assumes nothing.
-use Rattle.std.specs.Prelude.{ℕ, Bool, true, false, cond, ◌≡◌, refl, List, [], ◌∷◌, Some, Ok, Err, Result}
+use Rattle.std.specs.Prelude.{ℕ, Bool, true, false, cond, ◌≡◌, refl, List, [], ◌∷◌, Option, Ok, Err, Result}
 use Rattle.std.proofs.Common.{sym, subst}
+use Rattle.state.specs.declared.Awaiting.{Awaiting}
+use Rattle.state.specs.declared.Awaited.{Awaited}
 use Rattle.state.specs.declared.Reading.{Reading}
 use Rattle.state.specs.declared.Refusal.{Refusal}
 use Rattle.state.specs.declared.State.{State}
 use Rattle.state.specs.declared.Events.{Events}
 use Rattle.state.specs.Fresh.{nothing_awaited}
 use Rattle.state.specs.Refusals.{Check}
-use Rattle.state.specs.RefusalsLaws.{none_due}
 use Rattle.state_call.specs.Outcome.{Outcome, unless}
 use Rattle.state_call.specs.OutcomeLaws.{or_either}
 use Rattle.driver_start.specs.Start.{start_call}
@@ -19,6 +20,7 @@ use Rattle.bus_order.specs.Order.{order_call}
 use Rattle.bus_query.specs.Query.{stalled_call, enabled_call}
 use Rattle.bus_events.specs.Raise.{raise_call}
 use Rattle.bus_events.specs.Poll.{poll_call}
+use Rattle.bus_wakeup.specs.Wakeup.{wakeup_call}
 use Rattle.transfer_begin.specs.Begin.{begin_call}
 use Rattle.transfer_take.specs.Take.{take_call}
 use Rattle.transfer_abandon.specs.Abandon.{abandon_call}
@@ -36,14 +38,14 @@ use Rattle.control_take_out.specs.TakeOut.{take_out_call}
 use Rattle.interrupt_asks.specs.Asking.{asked}
 use Rattle.interrupt_asks.specs.Settled.{settled}
 use Rattle.interrupt_begin.specs.Begin.{first_awaited, interrupt_call}
-use Rattle.interrupt.specs.Interrupt.{answer_conditions, answer_call}
-use Rattle.interrupt_laws.specs.ReadingLaws.{tested_reading}
-use Rattle.usbss.specs.Call.{World, Call, Start, PowerOn, PowerOff, Ordered, IsStalled, IsEnabled, Raise, Poll, Begin, Take, Abandon, Send, Sent, Receive, Received, Setup, DataOut, DataIn, Accept, AcceptAddress, Reject, TakeOut, TakeIn, Interrupt, Answer}
+use Rattle.interrupt.specs.Interrupt.{answer_call}
+use Rattle.usbss.specs.Call.{World, Call, Start, PowerOn, PowerOff, Ordered, IsStalled, IsEnabled, Raise, Poll, Wakeup, Begin, Take, Abandon, Send, Sent, Receive, Received, Setup, DataOut, DataIn, Accept, AcceptAddress, Reject, TakeOut, TakeIn, Interrupt, Answer}
 use Rattle.usbss.specs.Step.{step}
 use Rattle.history_rows.specs.Rows.{left_by, rows, final}
 use Rattle.history_rows.specs.Memory.{Memory, memory_of, accepted}
-use Rattle.history_memory.specs.Remembered.{noted, by_answer, hears, turned_on, turned_off, remembered, recall}
-use Rattle.history_memory.proofs.NotedLaws.{reading_notes}
+use Rattle.history_memory.specs.Sequence.{first_reading, follows}
+use Rattle.history_memory.specs.Remembered.{noted_if, hears, turned_on, turned_off, remembered, recall}
+use Rattle.history_memory.proofs.NotedLaws.{tested_leads}
 
 -- ---- a call by what its tests come to
 
@@ -73,32 +75,32 @@ module _ (s : State) (v : Events) where
   on_told true revision = refl
   on_told false revision = refl
 
+  -- what a refusal leaves, and what is heard of a call that isn't one
+  abbrev heard : Awaited → Result (Option Awaiting) Refusal → Memory
+  heard x a = cond (accepted a) (hears (memory_of s) x) (memory_of s)
+
   -- the link's flags are asked first, of a device that is on
-  begun_told : (b : Bool)
-      → memory_of (settled s v (first_awaited b) []).state
-      ≡ hears (memory_of s) (by_answer s.awaited (λ next. asked nothing_awaited (Some next)) (settled s v (first_awaited b) []).answer)
+  begun_told : (b : Bool) → memory_of (settled s v (first_awaited b) []).state ≡ heard (asked nothing_awaited (first_reading b)) (settled s v (first_awaited b) []).answer
   unfolding settled
   begun_told true = refl
   begun_told false = refl
 
-  interrupt_told : (room : ℕ)
-      → memory_of (interrupt_call room s v).state ≡ hears (memory_of s) (by_answer s.awaited (λ next. asked nothing_awaited (Some next)) (interrupt_call room s v).answer)
+  interrupt_told : (room : ℕ) → memory_of (interrupt_call room s v).state ≡ heard (asked nothing_awaited (first_reading s.powered)) (interrupt_call room s v).answer
   unfolding interrupt_call
-  interrupt_told room =
-      told _ s v _ (λ a. hears (memory_of s) (by_answer s.awaited (λ next. asked nothing_awaited (Some next)) a)) (λ r. refl) (λ h. begun_told s.powered)
+  interrupt_told room = told _ s v _ (heard (asked nothing_awaited (first_reading s.powered))) (λ r. refl) (λ h. begun_told s.powered)
 
   answer_told : (room : ℕ) (r : Reading)
-      → memory_of (answer_call room s v r).state ≡ hears (memory_of s) (by_answer s.awaited (λ next. noted s.awaited next r) (answer_call room s v r).answer)
+      → memory_of (answer_call room s v r).state ≡ heard (noted_if s.awaited r (follows s.revision s.awaited r)) (answer_call room s v r).answer
   unfolding answer_call
   answer_told room r =
-      told _ s v _ (λ a. hears (memory_of s) (by_answer s.awaited (λ next. noted s.awaited next r) a)) (λ q. refl)
-      (λ h. let t = tested_reading room s v r (none_due (answer_conditions room s v r) h) in reading_notes s v r t.matches t.range)
+      told _ s v _ (heard (noted_if s.awaited r (follows s.revision s.awaited r))) (λ q. refl)
+      (λ h. let t = tested_leads room s v r h in rw t.0 t.1)
 
 -- ---- every call
 
 -- What a call leaves remembered in the state is what is remembered of the call and its answer.
 pub memory_step : (w : World) (c : Call) → memory_of (step w c).state ≡ remembered (memory_of w.state) c (step w c).answer
-unfolding step remembered start_call power_on_call power_off_call order_call stalled_call enabled_call raise_call poll_call begin_call take_call abandon_call send_call sent_call receive_call received_call setup_call data_out_call data_in_call accept_call accept_address_call reject_call take_in_call take_out_call
+unfolding step remembered start_call power_on_call power_off_call order_call stalled_call enabled_call raise_call poll_call wakeup_call begin_call take_call abandon_call send_call sent_call receive_call received_call setup_call data_out_call data_in_call accept_call accept_address_call reject_call take_in_call take_out_call
 memory_step w (Start driver size) =
     told _ w.state w.events _ (λ a. cond (accepted a) (turned_off (memory_of w.state)) (memory_of w.state)) (λ r. refl) (λ h. refl)
 memory_step w (PowerOn room revision) =
@@ -111,6 +113,7 @@ memory_step w (IsStalled at) = untold _ w.state w.events _ refl
 memory_step w (IsEnabled at) = untold _ w.state w.events _ refl
 memory_step w (Raise event) = untold _ w.state w.events _ refl
 memory_step w Poll = untold _ w.state w.events _ refl
+memory_step w (Wakeup room) = untold _ w.state w.events _ refl
 memory_step w (Begin room at piece) = untold _ w.state w.events _ refl
 memory_step w (Take at) = untold _ w.state w.events _ refl
 memory_step w (Abandon room at) = untold _ w.state w.events _ refl

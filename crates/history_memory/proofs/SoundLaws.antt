@@ -10,6 +10,7 @@ use Rattle.driver_laws.specs.StartKeeps.{start_keeps_sound}
 use Rattle.bus_query.specs.Query.{query_conditions, query_call, stalled_call, enabled_call}
 use Rattle.bus_laws.specs.PowerKeeps.{power_on_keeps_sound, power_off_keeps_sound}
 use Rattle.bus_laws.specs.OrderKeeps.{order_keeps_sound}
+use Rattle.bus_wakeup.specs.Wakeup.{wakeup_conditions, wakeup_call}
 use Rattle.bus_laws.specs.EventKeeps.{raise_keeps_sound, poll_keeps_sound}
 use Rattle.transfer_laws.specs.BeginKeeps.{begin_keeps_sound}
 use Rattle.transfer_laws.specs.FinishKeeps.{take_keeps_sound, abandon_keeps_sound}
@@ -17,7 +18,7 @@ use Rattle.endpoint_choice.specs.Choice.{asked_of}
 use Rattle.endpoint_laws.specs.MoveKeeps.{send_keeps_sound, sent_keeps_sound, receive_keeps_sound, received_keeps_sound}
 use Rattle.control_laws.specs.ControlKeeps.{data_out_keeps, data_in_keeps, accept_keeps, accept_address_keeps, reject_keeps, setup_keeps, take_in_keeps, take_out_keeps}
 use Rattle.interrupt_laws.specs.InterruptKeeps.{answer_keeps, interrupt_keeps}
-use Rattle.usbss.specs.Call.{World, Call, Start, PowerOn, PowerOff, Ordered, IsStalled, IsEnabled, Raise, Poll, Begin, Take, Abandon, Send, Sent, Receive, Received, Setup, DataOut, DataIn, Accept, AcceptAddress, Reject, TakeOut, TakeIn, Interrupt, Answer}
+use Rattle.usbss.specs.Call.{World, Call, Start, PowerOn, PowerOff, Ordered, IsStalled, IsEnabled, Raise, Poll, Wakeup, Begin, Take, Abandon, Send, Sent, Receive, Received, Setup, DataOut, DataIn, Accept, AcceptAddress, Reject, TakeOut, TakeIn, Interrupt, Answer}
 use Rattle.usbss.specs.Step.{step}
 use Rattle.usbss.specs.StepLaws.{alters, events_stay}
 use Rattle.history_rows.specs.Rows.{left_by, final}
@@ -33,7 +34,7 @@ beside w c e h = subst (λ (u : Events). soundb (step w c).state u ≡ true) (sy
 
 -- A call, refused or not, leaves what 26 doesn't refuse.
 pub sound_step : (w : World) → Sound w → (c : Call) → Sound (left_by (step w c))
-unfolding step stalled_call enabled_call
+unfolding step stalled_call enabled_call wakeup_call
 sound_step w h (Start driver size) = start_keeps_sound w.state w.events driver size h
 sound_step w h (PowerOn room revision) = power_on_keeps_sound room w.state w.events revision h
 sound_step w h (PowerOff room) = power_off_keeps_sound room w.state w.events h
@@ -42,6 +43,7 @@ sound_step w h (IsStalled at) = query_keeps_sound w.state w.events _ h
 sound_step w h (IsEnabled at) = query_keeps_sound w.state w.events _ h
 sound_step w h (Raise event) = raise_keeps_sound w.state w.events event h
 sound_step w h Poll = poll_keeps_sound w.state w.events h
+sound_step w h (Wakeup room) = keeps (λ t u. soundb t u ≡ true) Err (wakeup_conditions room w.state w.events) w.state w.events _ h (λ n. h)
 sound_step w h (Begin room at piece) = begin_keeps_sound room w.state w.events at.index at.incoming piece false false h
 sound_step w h (Take at) = take_keeps_sound w.state w.events at.index at.incoming false _ h
 sound_step w h (Abandon room at) = abandon_keeps_sound room w.state w.events at.index at.incoming h

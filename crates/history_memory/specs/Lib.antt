@@ -1,1 +1,3 @@
+pub mod Sequence
 pub mod Remembered
+pub mod Asked

@@ -1,17 +1,18 @@
--- What is remembered behind a call, read off it and its answer. Only what a history starts with is read off its first state.
+-- What is remembered behind a call, read off it; of its answer only whether it is a refusal. Which reading is awaited is told by the
+-- readings. Only what a history starts with is read off its first state.
 -- Assumes nothing.
-use Rattle.std.specs.Prelude.{ℕ, true, false, cond, List, [], ◌∷◌, eqb, Option, Some, None, Result, Ok, Err}
+use Rattle.std.specs.Prelude.{ℕ, true, false, cond, List, [], ◌∷◌, eqb, Option, Some, None}
 use Rattle.state.specs.declared.Awaited.{Awaited}
 use Rattle.state.specs.declared.Awaiting.{Awaiting}
 use Rattle.state.specs.declared.Reading.{Reading}
 use Rattle.state.specs.declared.Reading.TheVariants as reading
-use Rattle.state.specs.declared.Refusal.{Refusal}
 use Rattle.state.specs.Fresh.{nothing_awaited}
 use Rattle.state.specs.Awaiting.{awaiting_number}
 use Rattle.interrupt_asks.specs.Asking.{asked}
-use Rattle.usbss.specs.Call.{Call, Start, PowerOn, PowerOff, Ordered, IsStalled, IsEnabled, Raise, Poll, Begin, Take, Abandon, Send, Sent, Receive, Received, Setup, DataOut, DataIn, Accept, AcceptAddress, Reject, TakeOut, TakeIn, Interrupt, Answer, Answers}
+use Rattle.usbss.specs.Call.{Call, Start, PowerOn, PowerOff, Ordered, IsStalled, IsEnabled, Raise, Poll, Wakeup, Begin, Take, Abandon, Send, Sent, Receive, Received, Setup, DataOut, DataIn, Accept, AcceptAddress, Reject, TakeOut, TakeIn, Interrupt, Answer, Answers}
 use Rattle.history_rows.specs.Rows.{Row}
 use Rattle.history_rows.specs.Memory.{Memory, accepted}
+use Rattle.history_memory.specs.Sequence.{first_reading, follows}
 
 -- The link's flags; its state, by the first link status; the endpoint of an OUT report, which is asked for its packets; and they.
 abbrev pub noted : Awaited → Awaiting → Reading → Awaited
@@ -26,11 +27,10 @@ noted a next (reading.Ep0Sequence q) = asked a (Some next)
 noted a next (reading.ChainPackets p) = record a { next = Some next; packets = p }
 noted a next (reading.LastLength n) = asked a (Some next)
 
--- by the answer: nothing has changed, handling has ended, or another reading is awaited
-abbrev pub by_answer : Awaited → (Awaiting → Awaited) → Result (Option Awaiting) Refusal → Awaited
-by_answer a f (Err r) = a
-by_answer a f (Ok None) = nothing_awaited
-by_answer a f (Ok (Some next)) = f next
+-- where no reading follows handling has ended, and nothing is remembered of it
+abbrev pub noted_if : Awaited → Reading → Option Awaiting → Awaited
+noted_if a r None = nothing_awaited
+noted_if a r (Some next) = noted a next r
 
 abbrev pub hears : Memory → Awaited → Memory
 hears m a = record m { awaited = a }
@@ -51,6 +51,7 @@ remembered m (IsStalled endpoint) a = m
 remembered m (IsEnabled endpoint) a = m
 remembered m (Raise event) a = m
 remembered m Poll a = m
+remembered m (Wakeup room) a = m
 remembered m (Begin room endpoint piece) a = m
 remembered m (Take endpoint) a = m
 remembered m (Abandon room endpoint) a = m
@@ -66,8 +67,8 @@ remembered m (AcceptAddress room g address) a = m
 remembered m (Reject room g) a = m
 remembered m (TakeOut g out ep0 address) a = m
 remembered m (TakeIn g) a = m
-remembered m (Interrupt room) a = hears m (by_answer m.awaited (λ next. asked nothing_awaited (Some next)) a)
-remembered m (Answer room r) a = hears m (by_answer m.awaited (λ next. noted m.awaited next r) a)
+remembered m (Interrupt room) a = cond (accepted a) (hears m (asked nothing_awaited (first_reading m.powered))) m
+remembered m (Answer room r) a = cond (accepted a) (hears m (noted_if m.awaited r (follows m.revision m.awaited r))) m
 
 -- behind a row, and behind several
 abbrev pub behind : Memory → Row → Memory

@@ -1,7 +1,6 @@
--- What an interrupt does for the link: it records no chain, and where it resets the bus the address is 0.
+-- What an interrupt does for the link: it records no chain, and where it resets the bus the address goes to 0.
 -- Assumes nothing.
 use Rattle.std.specs.Prelude.{ℕ, ◌/◌, ◌%◌, ◌^◌, Bool, true, false, ◌&&◌, ◌||◌, cond, List, [], ◌++◌, eqb, ltb, ◌≡◌, refl}
-use Rattle.std.proofs.Common.{◌∙◌}
 use Rattle.ops.specs.Ops.{Op}
 use Rattle.ops.specs.Numbers as number
 use Rattle.state.specs.declared.LinkState.{LinkState}
@@ -11,14 +10,14 @@ use Rattle.regs_device.specs.Device.{bus_reset_ops}
 use Rattle.interrupt_link.specs.declared.LinkEffect.{LinkEffect}
 use Rattle.interrupt_link.specs.Actions.{recovered_ops, trained, resumed, awake, link_change, link_change_ops, changed, changed_ops, lmp_subtype, message_ops, warmed_ops}
 use Rattle.history_ops.specs.Recorded.{Silent}
-use Rattle.history_ops.specs.Held.{held}
+use Rattle.history_ops.specs.Held.{Moves}
 use Rattle.history_ops.specs.Readings.{resetting}
 use Rattle.history_ops.specs.Touched.{touches, Quiet}
 use Rattle.history_ops.proofs.RecordedLaws.{silent_none, silent_append, silent_cond}
-use Rattle.history_ops.proofs.HeldLaws.{keeps_none, held_behind, held_before}
+use Rattle.history_ops.proofs.HeldLaws.{stays_none, moves_still, moves_behind, moves_before}
 use Rattle.history_ops.proofs.TouchedLaws.{quiet_untouched, quiet_none}
 use Rattle.history_ops.proofs.LinkOps.{phy_write_quiet, link_power_allow_quiet, tx_port_cap_quiet, tx_cap_vld_quiet, tx_port_cfg_res_quiet, link_ack_quiet, go_disabled_quiet, hot_reset_done_quiet, u2_timer_quiet}
-use Rattle.history_ops.proofs.DeviceOps.{bus_reset_silent, bus_reset_held}
+use Rattle.history_ops.proofs.DeviceOps.{bus_reset_silent, bus_reset_moves}
 
 -- ---- a change of the link's state
 
@@ -38,16 +37,16 @@ change_silent link.RECOVERY ep0 low = (recovered_quiet low).silent
 change_silent link.HOTRST ep0 low = silent_append (bus_reset_ops ep0) hot_reset_done_ops (bus_reset_silent ep0) hot_reset_done_quiet.silent
 change_silent link.OTHER ep0 low = silent_none
 
-pub change_held : (a : ℕ) (l : LinkState) (ep0 : ℕ) (low : Bool) → held a (link_change_ops l ep0 low) ≡ cond (resetting l) 0 a
-change_held a link.U0 ep0 low = keeps_none a
-change_held a link.U1 ep0 low = (phy_write_quiet 0x12 0x65c8).keeps a
-change_held a link.U2 ep0 low = (phy_write_quiet 0x12 0x65c8).keeps a
-change_held a link.U3 ep0 low = (phy_write_quiet 0x12 0x65c8).keeps a
-change_held a link.DISABLED ep0 low = (go_disabled_quiet false).keeps a
-change_held a link.RXDET ep0 low = bus_reset_held a ep0
-change_held a link.RECOVERY ep0 low = (recovered_quiet low).keeps a
-change_held a link.HOTRST ep0 low = held_before (bus_reset_ops ep0) hot_reset_done_ops hot_reset_done_quiet.keeps a ∙ bus_reset_held a ep0
-change_held a link.OTHER ep0 low = keeps_none a
+pub change_moves : (a : ℕ) (l : LinkState) (ep0 : ℕ) (low : Bool) → Moves a (cond (resetting l) 0 a) (link_change_ops l ep0 low)
+change_moves a link.U0 ep0 low = moves_still (stays_none a)
+change_moves a link.U1 ep0 low = moves_still ((phy_write_quiet 0x12 0x65c8).keeps a)
+change_moves a link.U2 ep0 low = moves_still ((phy_write_quiet 0x12 0x65c8).keeps a)
+change_moves a link.U3 ep0 low = moves_still ((phy_write_quiet 0x12 0x65c8).keeps a)
+change_moves a link.DISABLED ep0 low = moves_still ((go_disabled_quiet false).keeps a)
+change_moves a link.RXDET ep0 low = bus_reset_moves a ep0
+change_moves a link.RECOVERY ep0 low = moves_still ((recovered_quiet low).keeps a)
+change_moves a link.HOTRST ep0 low = moves_before (bus_reset_ops ep0) hot_reset_done_ops (bus_reset_moves a ep0) (hot_reset_done_quiet.keeps 0)
+change_moves a link.OTHER ep0 low = moves_still (stays_none a)
 
 -- where it is flagged
 pub changed_silent : (flag : Bool) (l : LinkState) (ep0 : ℕ) (low : Bool) → Silent (changed_ops flag l ep0 low)
@@ -56,10 +55,10 @@ changed_silent flag l ep0 low =
     (silent_append (link_ack_ops number.link_if_state_chg) (link_change_ops l ep0 low) (link_ack_quiet number.link_if_state_chg).silent (change_silent l ep0 low))
     silent_none
 
-pub changed_held : (a : ℕ) (flag : Bool) (l : LinkState) (ep0 : ℕ) (low : Bool) → held a (changed_ops flag l ep0 low) ≡ cond (flag && resetting l) 0 a
-changed_held a true l ep0 low =
-    held_behind (link_ack_ops number.link_if_state_chg) (link_change_ops l ep0 low) (link_ack_quiet number.link_if_state_chg).keeps a ∙ change_held a l ep0 low
-changed_held a false l ep0 low = keeps_none a
+pub changed_moves : (a : ℕ) (flag : Bool) (l : LinkState) (ep0 : ℕ) (low : Bool) → Moves a (cond (flag && resetting l) 0 a) (changed_ops flag l ep0 low)
+changed_moves a true l ep0 low =
+    moves_behind (link_ack_ops number.link_if_state_chg) (link_change_ops l ep0 low) ((link_ack_quiet number.link_if_state_chg).keeps a) (change_moves a l ep0 low)
+changed_moves a false l ep0 low = moves_still (stays_none a)
 
 -- ---- messages, warm reset
 
@@ -88,9 +87,9 @@ pub warmed_silent : (warm : Bool) (ep0 : ℕ) → Silent (warmed_ops warm ep0)
 warmed_silent warm ep0 =
     silent_cond warm (bus_reset_ops ep0 ++ held_down) [] (silent_append (bus_reset_ops ep0) held_down (bus_reset_silent ep0) held_down_quiet.silent) silent_none
 
-pub warmed_held : (a : ℕ) (warm : Bool) (ep0 : ℕ) → held a (warmed_ops warm ep0) ≡ cond warm 0 a
-warmed_held a true ep0 = held_before (bus_reset_ops ep0) held_down held_down_quiet.keeps a ∙ bus_reset_held a ep0
-warmed_held a false ep0 = keeps_none a
+pub warmed_moves : (a : ℕ) (warm : Bool) (ep0 : ℕ) → Moves a (cond warm 0 a) (warmed_ops warm ep0)
+warmed_moves a true ep0 = moves_before (bus_reset_ops ep0) held_down (bus_reset_moves a ep0) (held_down_quiet.keeps 0)
+warmed_moves a false ep0 = moves_still (stays_none a)
 
 -- ---- the bus is reset, as the effect has it, where the address becomes 0
 

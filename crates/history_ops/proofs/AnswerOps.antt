@@ -1,5 +1,5 @@
--- A reading handed in, whichever is awaited: it records the chain that follows a report, and no other; the address is 0 behind a
--- bus reset, the one that waited behind the end of a status stage, and else as it was.
+-- A reading handed in, whichever is awaited: it records the chain that follows a report, and no other; the address goes to 0 by a
+-- bus reset, to the one that waited by the end of a status stage, and else stays as it was.
 -- Assumes nothing.
 use Rattle.std.specs.Prelude.{ℕ, ◌<◌, Bool, true, false, cond, eqb, leb, ◌≡◌, refl, None, Err}
 use Rattle.std.proofs.Common.{arith}
@@ -18,10 +18,10 @@ use Rattle.interrupt_readings.specs.Heard.{heard_link}
 use Rattle.interrupt_followers.specs.Followers.{heard_transfer}
 use Rattle.interrupt.specs.Interrupt.{answer_conditions, link_before, link_after, link_settled, transfer_settled, answered, answer_call}
 use Rattle.history_ops.specs.Recorded.{none, recorded}
-use Rattle.history_ops.specs.Held.{held, due}
+use Rattle.history_ops.specs.Held.{Moves, due}
 use Rattle.history_ops.specs.Readings.{report_of, reported, ends_status, resets_bus}
-use Rattle.history_ops.proofs.ReadingOps.{link_silent, link_held, transfer_recorded, transfer_held}
-use Rattle.history_ops.proofs.CallLaws.{unless_recorded, unless_held}
+use Rattle.history_ops.proofs.ReadingOps.{link_silent, link_moves, transfer_recorded, transfer_moves}
+use Rattle.history_ops.proofs.CallLaws.{unless_recorded, unless_moves}
 
 -- ---- the first six readings are the link's
 
@@ -99,21 +99,21 @@ module _ (room : ℕ) (s : State) (v : Events) (r : Reading) where
           let k = heard_transfer s m in
           rw (← settled_ops k.state v k.awaited k.ops) (transfer_recorded s m incoming e)
 
-  pub answered_held : (a : ℕ)
-      → held a (answered s v (matched_as s.awaited.next r)).ops
-      ≡ cond (resets_bus s.revision s.awaited (matched_as s.awaited.next r)) 0 (cond (ends_status (matched_as s.awaited.next r)) (due s.address a) a)
-  answered_held a = go (leb n 6) refl
+  pub answered_moves : (a : ℕ)
+      → Moves a (cond (resets_bus s.revision s.awaited (matched_as s.awaited.next r)) 0 (cond (ends_status (matched_as s.awaited.next r)) (due s.address a) a))
+      (answered s v (matched_as s.awaited.next r)).ops
+  answered_moves a = go (leb n 6) refl
     where
       go : (b : Bool) → leb n 6 ≡ b
-          → held a (cond b (link_settled s (heard_link s.ep0_address s.revision s.awaited (link_before s v) m)) (transfer_settled v (heard_transfer s m))).ops
-          ≡ cond (resets_bus s.revision s.awaited m) 0 (cond (ends_status m) (due s.address a) a)
+          → Moves a (cond (resets_bus s.revision s.awaited m) 0 (cond (ends_status m) (due s.address a) a))
+          (cond b (link_settled s (heard_link s.ep0_address s.revision s.awaited (link_before s v) m)) (transfer_settled v (heard_transfer s m))).ops
       go true h =
           let k = heard_link s.ep0_address s.revision s.awaited (link_before s v) m in
           rw (← settled_ops (link_after s k.effect) k.effect.events k.awaited k.ops, (of_link s.awaited n h r).1)
-          (link_held s.ep0_address s.revision s.awaited (link_before s v) a m)
+          (link_moves s.ep0_address s.revision s.awaited (link_before s v) a m)
       go false h =
           let k = heard_transfer s m in
-          rw (← settled_ops k.state v k.awaited k.ops, of_transfer s.revision s.awaited n h r) (transfer_held s a m)
+          rw (← settled_ops k.state v k.awaited k.ops, of_transfer s.revision s.awaited n h r) (transfer_moves s a m)
 
   -- A reading handed in records what its report does;
   pub answer_recorded : (incoming : Bool) (e : ℕ)
@@ -122,10 +122,11 @@ module _ (room : ℕ) (s : State) (v : Events) (r : Reading) where
   unfolding answer_call
   answer_recorded incoming e = rw (← answered_recorded incoming e) (unless_recorded Err (first_refusal (answer_conditions room s v r)) s v (answered s v m) incoming e)
 
-  -- and the address changes by a bus reset and by the end of a status stage alone.
-  pub answer_held : (a : ℕ)
-      → held a (answer_call room s v r).ops
-      ≡ or_else (first_refusal (answer_conditions room s v r)) (λ q. a)
-      (cond (resets_bus s.revision s.awaited (matched_as s.awaited.next r)) 0 (cond (ends_status (matched_as s.awaited.next r)) (due s.address a) a))
+  -- and the address changes by a bus reset and by the end of a status stage alone, in one step.
+  pub answer_moves : (a : ℕ)
+      → Moves a
+      (or_else (first_refusal (answer_conditions room s v r)) (λ q. a)
+      (cond (resets_bus s.revision s.awaited (matched_as s.awaited.next r)) 0 (cond (ends_status (matched_as s.awaited.next r)) (due s.address a) a)))
+      (answer_call room s v r).ops
   unfolding answer_call
-  answer_held a = rw (← answered_held a) (unless_held Err (first_refusal (answer_conditions room s v r)) s v (answered s v m) a)
+  answer_moves a = unless_moves Err (first_refusal (answer_conditions room s v r)) s v (answered s v m) a _ (answered_moves a)

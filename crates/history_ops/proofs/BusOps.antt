@@ -1,7 +1,6 @@
--- Orders and power: they record no chain; power off leaves the address 0, an order leaves it as it was.
+-- Orders and power: they record no chain; power off takes the address to 0, an order leaves it as it was.
 -- Assumes nothing.
-use Rattle.std.specs.Prelude.{ℕ, Bool, true, false, cond, [], ◌++◌, ◌≡◌, Ok, Err}
-use Rattle.std.proofs.Common.{◌∙◌}
+use Rattle.std.specs.Prelude.{ℕ, Bool, true, false, cond, [], ◌++◌, Ok, Err}
 use Rattle.state.specs.declared.Slot.{Slot}
 use Rattle.state.specs.Refusals.{Check}
 use Rattle.state_slots.specs.Slots.{busyb}
@@ -13,13 +12,13 @@ use Rattle.bus_endpoint.specs.declared.Order.TheVariants.{Stall, Enable}
 use Rattle.bus_endpoint.specs.Endpoint.{isochronous_of, fits, ordered_ops, made_ops, obeyed_ops}
 use Rattle.bus_power_off.specs.PowerOff.{shut_ops}
 use Rattle.history_ops.specs.Recorded.{Silent}
-use Rattle.history_ops.specs.Held.{held}
+use Rattle.history_ops.specs.Held.{Moves}
 use Rattle.history_ops.specs.Touched.{Quiet}
 use Rattle.history_ops.proofs.RecordedLaws.{silent_none, silent_cond}
-use Rattle.history_ops.proofs.HeldLaws.{keeps_none, held_cond}
+use Rattle.history_ops.proofs.HeldLaws.{stays_none, moves_still, moves_cond}
 use Rattle.history_ops.proofs.TouchedLaws.{quiet_none, quiet_append, quiet_cond}
 use Rattle.history_ops.proofs.EndpointOps.{abort_busy_quiet, halt_quiet, clear_quiet, configure_quiet, enable_quiet}
-use Rattle.history_ops.proofs.DeviceOps.{shutdown_silent, shutdown_held}
+use Rattle.history_ops.proofs.DeviceOps.{shutdown_silent, shutdown_moves}
 
 pub ordered_quiet : (o : Order) (e : ℕ) (incoming : Bool) (x : Slot) → Quiet (ordered_ops o e incoming x)
 ordered_quiet (Stall stalled) e incoming x =
@@ -45,5 +44,5 @@ obeyed_quiet (Err r) powered e incoming o x = quiet_none
 pub shut_silent : (powered : Bool) → Silent (shut_ops powered)
 shut_silent powered = silent_cond powered shutdown_ops [] shutdown_silent silent_none
 
-pub shut_held : (a : ℕ) (powered : Bool) → held a (shut_ops powered) ≡ cond powered 0 a
-shut_held a powered = held_cond a powered shutdown_ops [] ∙ rw (shutdown_held a, keeps_none a)
+pub shut_moves : (a : ℕ) (powered : Bool) → Moves a (cond powered 0 a) (shut_ops powered)
+shut_moves a powered = moves_cond powered shutdown_ops [] (shutdown_moves a) (moves_still (stays_none a))

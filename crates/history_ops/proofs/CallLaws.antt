@@ -7,10 +7,10 @@ use Rattle.state.specs.declared.Refusal.{Refusal}
 use Rattle.state.specs.Refusals.{Check}
 use Rattle.state_call.specs.Outcome.{Outcome, or_else, unless}
 use Rattle.history_ops.specs.Recorded.{none, recorded, Silent}
-use Rattle.history_ops.specs.Held.{held, Keeps}
+use Rattle.history_ops.specs.Held.{Moves, Keeps}
 use Rattle.history_ops.specs.Touched.{Quiet}
 use Rattle.history_ops.proofs.RecordedLaws.{silent_none}
-use Rattle.history_ops.proofs.HeldLaws.{keeps_none}
+use Rattle.history_ops.proofs.HeldLaws.{stays_none, keeps_none, moves_still}
 
 module _ {A : Type 0} (refused : Refusal → A) (c : Check) (s : State) (v : Events) (o : Outcome A) where
   pub unless_recorded : (incoming : Bool) (e : ℕ) → recorded incoming e (unless refused c s v o).ops ≡ or_else c (λ r. none) (recorded incoming e o.ops)
@@ -21,13 +21,13 @@ module _ {A : Type 0} (refused : Refusal → A) (c : Check) (s : State) (v : Eve
       go (Ok u) = refl
       go (Err r) = silent_none incoming e
 
-  pub unless_held : (a : ℕ) → held a (unless refused c s v o).ops ≡ or_else c (λ r. a) (held a o.ops)
+  pub unless_moves : (a b : ℕ) → Moves a b o.ops → Moves a (or_else c (λ r. a) b) (unless refused c s v o).ops
   unfolding or_else
-  unless_held a = go c
+  unless_moves a b m = go c
     where
-      go : (k : Check) → held a (unless refused k s v o).ops ≡ or_else k (λ r. a) (held a o.ops)
-      go (Ok u) = refl
-      go (Err r) = keeps_none a
+      go : (k : Check) → Moves a (or_else k (λ r. a) b) (unless refused k s v o).ops
+      go (Ok u) = m
+      go (Err r) = moves_still (stays_none a)
 
   pub unless_silent : Silent o.ops → Silent (unless refused c s v o).ops
   unfolding or_else

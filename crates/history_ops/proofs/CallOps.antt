@@ -1,5 +1,5 @@
 -- What each call's operations do, refused or not: a begin records its first chain, and no other call but a reading records one;
--- the address becomes 0 where power comes or goes, and no other call but a reading changes it.
+-- the address goes to 0 where power comes or goes, in one step, and no other call but a reading changes it.
 -- Assumes nothing.
 use Rattle.std.specs.Prelude.{ℕ, Bool, true, false, cond, List, [], ◌≡◌, refl, leb, Some, Ok, Err, Result}
 use Rattle.ops.specs.Ops.{Op}
@@ -25,6 +25,7 @@ use Rattle.bus_events.specs.Poll.{poll_conditions, poll_call}
 use Rattle.bus_query.specs.Query.{query_conditions, query_call, stalledb, enabledb, stalled_call, enabled_call}
 use Rattle.regs_device.specs.Device.{power_on_ops}
 use Rattle.bus_power_on.specs.PowerOn.{on_conditions, power_on_call}
+use Rattle.bus_wakeup.specs.Wakeup.{wakeup_conditions, wakeup_call}
 use Rattle.bus_power_off.specs.PowerOff.{off_conditions, power_off_call}
 use Rattle.control_stage.specs.Stage.{servedb, begun, unanswered, in_stage}
 use Rattle.control_setup.specs.Setup.{setup_conditions, setup_call}
@@ -47,18 +48,19 @@ use Rattle.interrupt_asks.specs.SettledLaws.{settled_ops}
 use Rattle.interrupt_asks.specs.Settled.{settled}
 use Rattle.interrupt_begin.specs.Begin.{interrupt_conditions, first_awaited, interrupt_call}
 use Rattle.history_ops.specs.Recorded.{none, recorded, Silent, handed}
-use Rattle.history_ops.specs.Held.{held, Keeps}
+use Rattle.history_ops.specs.Held.{Moves, Keeps}
 use Rattle.history_ops.specs.Touched.{Quiet}
 use Rattle.history_ops.proofs.RecordedLaws.{silent_none, silent_cond}
-use Rattle.history_ops.proofs.HeldLaws.{keeps_none, keeps_cond}
+use Rattle.history_ops.proofs.HeldLaws.{stays_none, keeps_none, keeps_cond, moves_still, moves_cond}
 use Rattle.history_ops.proofs.TouchedLaws.{quiet_none}
 use Rattle.history_ops.proofs.EndpointOps.{abort_busy_quiet}
+use Rattle.history_ops.proofs.LinkOps.{ux_exit_quiet}
 use Rattle.history_ops.proofs.ControlOps.{ep0_rx_ready_quiet, ep0_tx_ready_quiet, ep0_stall_quiet}
-use Rattle.history_ops.proofs.DeviceOps.{power_on_silent, power_on_held}
+use Rattle.history_ops.proofs.DeviceOps.{power_on_silent, power_on_moves}
 use Rattle.history_ops.proofs.TransferOps.{begun_recorded, begun_keeps}
-use Rattle.history_ops.proofs.BusOps.{made_quiet, shut_silent, shut_held}
+use Rattle.history_ops.proofs.BusOps.{made_quiet, shut_silent, shut_moves}
 use Rattle.history_ops.proofs.Ep0Ops.{accept_quiet}
-use Rattle.history_ops.proofs.CallLaws.{unless_recorded, unless_held, unless_silent, unless_keeps, unless_quiet}
+use Rattle.history_ops.proofs.CallLaws.{unless_recorded, unless_moves, unless_silent, unless_keeps, unless_quiet}
 
 -- ---- transfers
 
@@ -194,23 +196,25 @@ module _ (room : ℕ) (s : State) (v : Events) where
       unless_silent Err (first_refusal (on_conditions room s v revision)) s v _
       (silent_cond s.powered [] (power_on_ops revision s.ep0_address) silent_none (power_on_silent revision s.ep0_address))
 
-  pub power_on_call_held : (revision a : ℕ) → held a (power_on_call room s v revision).ops ≡ or_else (first_refusal (on_conditions room s v revision)) (λ r. a) (cond s.powered a 0)
+  pub power_on_call_moves : (revision a : ℕ)
+      → Moves a (or_else (first_refusal (on_conditions room s v revision)) (λ r. a) (cond s.powered a 0)) (power_on_call room s v revision).ops
   unfolding power_on_call
-  power_on_call_held revision a =
-      rw (← made s.powered) (unless_held Err (first_refusal (on_conditions room s v revision)) s v _ a)
-    where
-      made : (b : Bool) → held a (cond b [] (power_on_ops revision s.ep0_address)) ≡ cond b a 0
-      made true = keeps_none a
-      made false = power_on_held a revision s.ep0_address
+  power_on_call_moves revision a =
+      unless_moves Err (first_refusal (on_conditions room s v revision)) s v _ a (cond s.powered a 0)
+      (moves_cond s.powered [] (power_on_ops revision s.ep0_address) (moves_still (stays_none a)) (power_on_moves a revision s.ep0_address))
 
   -- and what goes down
   pub power_off_call_silent : Silent (power_off_call room s v).ops
   unfolding power_off_call
   power_off_call_silent = unless_silent Err (first_refusal (off_conditions room s v)) s v _ (shut_silent s.powered)
 
-  pub power_off_call_held : (a : ℕ) → held a (power_off_call room s v).ops ≡ or_else (first_refusal (off_conditions room s v)) (λ r. a) (cond s.powered 0 a)
+  pub power_off_call_moves : (a : ℕ) → Moves a (or_else (first_refusal (off_conditions room s v)) (λ r. a) (cond s.powered 0 a)) (power_off_call room s v).ops
   unfolding power_off_call
-  power_off_call_held a = rw (← shut_held a s.powered) (unless_held Err (first_refusal (off_conditions room s v)) s v _ a)
+  power_off_call_moves a = unless_moves Err (first_refusal (off_conditions room s v)) s v _ a (cond s.powered 0 a) (shut_moves a s.powered)
+
+  pub wakeup_quiet : Quiet (wakeup_call room s v).ops
+  unfolding wakeup_call
+  wakeup_quiet = unless_quiet Err (first_refusal (wakeup_conditions room s v)) s v _ ux_exit_quiet
 
   pub interrupt_quiet : Quiet (interrupt_call room s v).ops
   unfolding interrupt_call

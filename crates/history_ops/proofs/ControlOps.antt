@@ -1,10 +1,10 @@
 -- What is done to endpoint 0's registers and to the transfer flags: it records no chain, and only the write of the address changes that.
 -- Assumes nothing.
-use Rattle.std.specs.Prelude.{ℕ, Bool, ◌≡◌, refl}
+use Rattle.std.specs.Prelude.{ℕ, Bool, refl}
 use Rattle.ops.specs.declared.numbers.Field.{Field}
 use Rattle.regs_control.specs.Control.{ep0_rx_ready_ops, ep0_tx_ready_ops, ep0_stall_ops, ep0_tx_clear_ops, ep0_rx_clear_ops, ep0_tx_answer_ops, ep0_rx_answer_ops, status_ack_ops, status_others_ops, address_ops}
 use Rattle.history_ops.specs.Recorded.{Silent}
-use Rattle.history_ops.specs.Held.{held_by, held}
+use Rattle.history_ops.specs.Held.{held_by, held, through, Moves}
 use Rattle.history_ops.specs.Touched.{touches, Quiet}
 use Rattle.history_ops.proofs.TouchedLaws.{silent_untouched, quiet_untouched}
 
@@ -49,6 +49,6 @@ pub address_silent : (address : ℕ) → Silent (address_ops address)
 unfolding touches
 address_silent address = silent_untouched (address_ops address) refl
 
-pub address_held : (a address : ℕ) → held a (address_ops address) ≡ address
-unfolding held held_by
-address_held a address = refl
+pub address_moves : (a address : ℕ) → Moves a address (address_ops address)
+unfolding through held held_by
+address_moves a address = record { first = 0; others = 1; each = refl; end = refl }

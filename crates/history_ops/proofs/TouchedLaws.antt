@@ -1,4 +1,4 @@
--- Operations that work on none of the registers record no chain, and leave the address.
+-- Operations that work on none of the registers record no chain, and each of them leaves the address.
 -- Assumes nothing.
 use Rattle.std.specs.Prelude.{ℕ, Bool, true, false, ◌||◌, cond, List, [], ◌∷◌, ◌++◌, ◌≡◌, refl}
 use Rattle.std.proofs.Common.{◌∙◌, sym}
@@ -8,7 +8,7 @@ use Rattle.ops.specs.Numbers as n
 use Rattle.ops.specs.Ops.{Op, write, modify, modify_if_differs, wait, clear_bits}
 use Rattle.ops.specs.Sequence.{up_to}
 use Rattle.history_ops.specs.Recorded.{same_register, given_by, given, recorded, Silent}
-use Rattle.history_ops.specs.Held.{held_by, held, Keeps}
+use Rattle.history_ops.specs.Held.{held_by, through, Keeps}
 use Rattle.history_ops.specs.Touched.{target, among, touches, chain_registers, address_registers, both_registers, Quiet}
 use Rattle.history_ops.proofs.RecordedLaws.{alike, silent_none, silent_append, silent_cond, silent_up_to}
 use Rattle.history_ops.proofs.HeldLaws.{keeps_none, keeps_append, keeps_cond, keeps_up_to}
@@ -81,11 +81,11 @@ held_elsewhere a (wait k) h = refl
 held_elsewhere a (clear_bits q i s) h = rw (or_parts (same_register q n.usbss_ctrl) false h).0
 
 pub keeps_untouched : (ops : List Op) → touches address_registers ops ≡ false → Keeps ops
-unfolding touches held
+unfolding touches through
 keeps_untouched [] h a = refl
 keeps_untouched (o ∷ os) h a =
     let p = or_parts (among address_registers (target o)) (touches address_registers os) h in
-    rw (held_elsewhere a o p.0) (keeps_untouched os p.1 a)
+    rw (held_elsewhere a o p.0, keeps_untouched os p.1 a)
 
 -- ---- both
 

@@ -1,7 +1,7 @@
--- The device address: what the field `dev_addr` of `usbss_ctrl` holds behind operations. That register stands alone, so no index
--- is looked at, and it has no field `all` (docs/REGISTERS.md).
+-- The device address: what the field `dev_addr` of `usbss_ctrl` holds behind each of some operations, in turn. That register stands
+-- alone, so no index is looked at, and it has no field `all` (docs/REGISTERS.md).
 -- Assumes nothing.
-use Rattle.std.specs.Prelude.{ℕ, ◌-◌, Bool, cond, List, [], ◌∷◌, eqb, ◌≡◌, bit_and, Option, Some, None}
+use Rattle.std.specs.Prelude.{ℕ, ◌-◌, Bool, cond, List, [], ◌∷◌, ◌++◌, length, replicate, eqb, ◌≡◌, bit_and, Option, Some, None}
 use Rattle.ops.specs.declared.numbers.Field.{Field}
 use Rattle.ops.specs.Numbers as n
 use Rattle.ops.specs.Ops.{Op, Setting, ◌≔◌, write, modify, modify_if_differs, wait, clear_bits}
@@ -27,13 +27,31 @@ held_by a (modify_if_differs q i s) = cond (same_register q n.usbss_ctrl) (set_b
 held_by a (wait k) = a
 held_by a (clear_bits q i s) = cond (same_register q n.usbss_ctrl) (cleared_by a s) a
 
+-- behind the last of them
 unfoldable pub held : ℕ → List Op → ℕ
 held a [] = a
 held a (o ∷ os) = held (held_by a o) os
 
--- the address stays
+-- behind each of them
+unfoldable pub through : ℕ → List Op → List ℕ
+through a [] = []
+through a (o ∷ os) = held_by a o ∷ through (held_by a o) os
+
+-- an address a stays: behind each of them it is a, so none gives another that a later one takes back
+abbrev pub Stays : ℕ → List Op → Type 0
+Stays a ops = through a ops ≡ replicate (length ops) a
+
+-- It goes from a to b in one step, or stays where they are the same: behind the first of them it is a, behind the others b, and b at
+-- the end.
+pub record Moves (a b : ℕ) (ops : List Op) : Type 0 where
+  pub first : ℕ
+  pub others : ℕ
+  pub each : through a ops ≡ replicate first a ++ replicate others b
+  pub end : held a ops ≡ b
+
+-- any address stays
 abbrev pub Keeps : List Op → Type 0
-Keeps ops = (a : ℕ) → held a ops ≡ a
+Keeps ops = (a : ℕ) → Stays a ops
 
 -- the address that waits, if one does, else a
 abbrev pub due : Option ℕ → ℕ → ℕ

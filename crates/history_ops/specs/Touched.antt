@@ -1,4 +1,5 @@
--- Which registers a list of operations works on: a test that tells of most lists that they record no chain and leave the address.
+-- Which registers a list of operations works on: a test that tells of most lists that they record no chain and leave the address
+-- all along.
 -- Assumes nothing.
 use Rattle.std.specs.Prelude.{Bool, false, ◌||◌, List, [], ◌∷◌}
 use Rattle.ops.specs.declared.numbers.Register.{Register}
@@ -33,7 +34,7 @@ address_registers = n.usbss_ctrl ∷ []
 abbrev pub both_registers : List Register
 both_registers = n.usbss_ctrl ∷ chain_registers
 
--- no chain, and the address stays
+-- no chain, and the address stays, behind each operation
 pub record Quiet (ops : List Op) : Type 0 where
   pub silent : Silent ops
   pub keeps : Keeps ops

@@ -25,7 +25,7 @@ use Rattle.interrupt_readings.specs.Matched.{matched_as}
 use Rattle.history_ops.specs.Recorded.{same_slot}
 use Rattle.history_ops.specs.Readings as ops
 use Rattle.history_ops.specs.Readings.{report_of, resets_bus}
-use Rattle.usbss.specs.Call.{World, Call, Start, PowerOn, PowerOff, Ordered, IsStalled, IsEnabled, Raise, Poll, Begin, Take, Abandon, Send, Sent, Receive, Received, Setup, DataOut, DataIn, Accept, AcceptAddress, Reject, TakeOut, TakeIn, Interrupt, Answer}
+use Rattle.usbss.specs.Call.{World, Call, Start, PowerOn, PowerOff, Ordered, IsStalled, IsEnabled, Raise, Poll, Wakeup, Begin, Take, Abandon, Send, Sent, Receive, Received, Setup, DataOut, DataIn, Accept, AcceptAddress, Reject, TakeOut, TakeIn, Interrupt, Answer}
 use Rattle.usbss.specs.Step.{step}
 use Rattle.history_rows.specs.Memory.{Memory, memory_of, accepted}
 use Rattle.history_effect.specs.Seen.{Told, Seen, Begins, Reports, Asks, Early, Cuts, begun_by, only, own, takes, took_busy, moved_busy, seen_report, seen_send, seen}
@@ -147,6 +147,7 @@ begins_data_by m w (IsStalled at) e incoming p h = absurd (never h refl)
 begins_data_by m w (IsEnabled at) e incoming p h = absurd (never h refl)
 begins_data_by m w (Raise event) e incoming p h = absurd (never h refl)
 begins_data_by m w Poll e incoming p h = absurd (never h refl)
+begins_data_by m w (Wakeup room) e incoming p h = absurd (never h refl)
 begins_data_by m w (Begin room at q) e incoming p h = begin_data m w room at q e incoming p h
 begins_data_by m w (Take at) e incoming p h =
     absurd (never h (own_takes_none e incoming at.index at.incoming m false (λ p. any_length) (took_busy (step w (Take at)).answer) (λ p t. (step w (Take at)).answer ≡ t)))

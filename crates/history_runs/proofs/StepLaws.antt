@@ -18,7 +18,7 @@ use Rattle.transfer_step.specs.Step.{counted_transfer, counted_slot, goes_on, st
 use Rattle.transfer_take.specs.Take.{take_answer, take_leaves}
 use Rattle.history_ideal.specs.Ideal.{Report}
 use Rattle.history_follows.specs.Follows.{Fits, as_recorded, handed_by, slot_ideal, slot_by}
-use Rattle.history_follows.specs.FollowsLaws.{report_follows, progress_result, in_hand, busy_is}
+use Rattle.history_follows.proofs.FollowsLaws.{report_follows, progress_result, in_hand, busy_is}
 use Rattle.history_ops.specs.Recorded.{Recorded, noted, follower}
 use Rattle.history_effect.specs.Seen.{Told, Seen, Begins, Reports, Asks, Early, Cuts, Nothing}
 use Rattle.history_runs.specs.Runs.{all_noted, FreeNext, OlderNext, within, told, Next}

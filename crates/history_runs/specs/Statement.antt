@@ -7,6 +7,7 @@ use Rattle.state_slots.specs.Slots.{idleb, data_endpoint, slot_of, slot_size, ow
 use Rattle.transfer_piece.specs.declared.Piece.{Piece}
 use Rattle.history_ideal.specs.Ideal.{Ideal, ideal}
 use Rattle.history_ideal.specs.Plan.{Planned}
+use Rattle.history_follows.specs.Follows.{Fits}
 use Rattle.usbss.specs.Call.{World, Call}
 use Rattle.usbss.specs.Step.{step}
 use Rattle.history_rows.specs.Rows.{rows, final}
@@ -19,8 +20,8 @@ use Rattle.history_runs.specs.Runs.{Free, Older, Transfer}
 abbrev pub ideal_on : World → Bool → Slot → Piece → Ideal
 ideal_on w incoming x p = ideal (limit_of w.state) incoming (own_buffer x).address (slot_size x) p
 
--- Each call of the list that begins a transfer starts one that goes as it should, in the rows from there on; and what it should
--- is what document 01 asks of a transfer.
+-- Each call of the list that begins a transfer starts one that goes as it should, in the rows from there on; what it should is what
+-- document 01 asks of a transfer; and its bytes lie below 2^32, so that no address wraps.
 unfoldable pub EachTransfer : World → List Call → Type 0
 EachTransfer w cs =
     (before : List Call) (c : Call) (after : List Call) (e : ℕ) (incoming : Bool) (p : Piece) → cs ≡ before ++ c ∷ after
@@ -29,7 +30,7 @@ EachTransfer w cs =
     let x : Slot = slot_of v.state e incoming in
     begun_by (seen e incoming m v c (step v c)) ≡ Some p
     → Transfer e incoming (ideal_on v incoming x p) p m (rows v (c ∷ after))
-    × Planned (limit_of v.state) incoming (slot_size x) p (ideal_on v incoming x p)
+    × (Planned (limit_of v.state) incoming (slot_size x) p (ideal_on v incoming x p) × Fits incoming x p)
 
 -- A data slot without a transfer in hand at the start records no chain, and has nothing to take, until a begin is accepted.
 unfoldable pub IdleSlots : World → List Call → Type 0

@@ -20,6 +20,7 @@ use Rattle.bus_power_off.specs.PowerOff.{power_off_call}
 use Rattle.bus_power_on.specs.PowerOn.{power_on_call}
 use Rattle.bus_laws.specs.PowerKeeps.{power_on_keeps_account, power_off_keeps_account}
 use Rattle.bus_laws.specs.OrderKeeps.{order_keeps_account}
+use Rattle.bus_wakeup.specs.WakeupLaws.{wakeup_state}
 use Rattle.bus_laws.specs.EventKeeps.{raise_state, poll_state}
 use Rattle.transfer_laws.specs.BeginKeeps.{begin_keeps_account}
 use Rattle.transfer_laws.specs.FinishKeeps.{take_keeps_account, abandon_keeps_account}
@@ -27,7 +28,7 @@ use Rattle.endpoint_choice.specs.Choice.{asked_of}
 use Rattle.endpoint_laws.specs.MoveKeeps.{send_keeps_account, sent_keeps_account, receive_keeps_account, received_keeps_account}
 use Rattle.control_laws.specs.ControlKeeps.{data_out_keeps, data_in_keeps, accept_keeps, accept_address_keeps, reject_keeps, setup_keeps, take_in_keeps, take_out_keeps}
 use Rattle.interrupt_laws.specs.InterruptKeeps.{answer_keeps, interrupt_keeps}
-use Rattle.usbss.specs.Call.{World, Call, Start, PowerOn, PowerOff, Ordered, IsStalled, IsEnabled, Raise, Poll, Begin, Take, Abandon, Send, Sent, Receive, Received, Setup, DataOut, DataIn, Accept, AcceptAddress, Reject, TakeOut, TakeIn, Interrupt, Answer}
+use Rattle.usbss.specs.Call.{World, Call, Start, PowerOn, PowerOff, Ordered, IsStalled, IsEnabled, Raise, Poll, Wakeup, Begin, Take, Abandon, Send, Sent, Receive, Received, Setup, DataOut, DataIn, Accept, AcceptAddress, Reject, TakeOut, TakeIn, Interrupt, Answer}
 use Rattle.usbss.specs.Step.{step}
 use Rattle.history_rows.specs.Rows.{left_by, final}
 
@@ -54,6 +55,7 @@ module _ (i : ℕ) (low : 2 ≤ i) (high : i < 16) where
   difference_at w (IsEnabled at) = by_state w.state _ i (query_state w.state w.events _)
   difference_at w (Raise event) = by_state w.state _ i (raise_state w.state w.events event)
   difference_at w Poll = by_state w.state _ i (poll_state w.state w.events)
+  difference_at w (Wakeup room) = by_state w.state _ i (wakeup_state room w.state w.events)
   difference_at w (Begin room at piece) = begin_keeps_account room w.state w.events at.index at.incoming piece false false i
   difference_at w (Take at) = take_keeps_account w.state w.events at.index at.incoming false _ i
   difference_at w (Abandon room at) = abandon_keeps_account room w.state w.events at.index at.incoming i

@@ -15,7 +15,7 @@ use Rattle.transfer_step.specs.Step.{counted_transfer, counted_slot, goes_on, st
 use Rattle.transfer_take.specs.Take.{taken_slot, take_leaves}
 use Rattle.history_ideal.specs.Ideal.{Report, Ideal}
 use Rattle.history_follows.specs.Follows.{slot_ideal, slot_by}
-use Rattle.history_follows.specs.FollowsLaws.{begin_follows, report_follows, progress_is, in_hand}
+use Rattle.history_follows.proofs.FollowsLaws.{begin_follows, report_follows, progress_is, in_hand}
 use Rattle.history_ops.specs.Recorded.{Recorded}
 use Rattle.history_effect.specs.Seen.{Told, Seen, Begins, Reports, Asks, Early, Cuts, Nothing}
 use Rattle.history_effect.specs.Effect.{Begun, Reported, Taken, EffectAs}

@@ -1,6 +1,6 @@
 -- Messages and sequence numbers are as USB 3.2 has them.
 -- Assumes nothing.
-use Rattle.std.specs.Prelude.{ℕ, zero, suc, ◌+◌, ◌/◌, ◌%◌, ◌^◌, ◌≤◌, ◌<◌, Bool, true, false, ◌&&◌, cond, List, [], ◌≡◌, eqb, ltb, length, Ok, Err}
+use Rattle.std.specs.Prelude.{ℕ, zero, suc, ◌+◌, ◌/◌, ◌%◌, ◌^◌, ◌≤◌, ◌<◌, Bool, true, false, ◌&&◌, cond, List, [], ◌++◌, ◌≡◌, eqb, ltb, length, Ok, Err}
 use Rattle.std.proofs.Math.Path.{refl}
 use Rattle.std.proofs.Common.{sym, subst, arith, eqb-true, ne_eqb}
 use Rattle.ops.specs.Ops.{Op}
@@ -18,11 +18,14 @@ use Rattle.state_call.specs.OutcomeLaws.{accepted, keeps}
 use Rattle.control_report.specs.Ep0.{status_follows, packet_sent}
 use Rattle.control_stage.specs.Stage.{ep0_unfit}
 use Rattle.control_in.specs.DataIn.{next_sequence, data_in_conditions, data_in_call}
+use Rattle.interrupt_asks.specs.Asking.{behind_message_ops}
 use Rattle.interrupt_asks.specs.Settled.{settled}
+use Rattle.interrupt_asks.specs.SettledLaws.{settled_ops}
+use Rattle.interrupt_readings.specs.Heard.{heard_link}
 use Rattle.interrupt_readings.specs.Matched.{matched_as}
 use Rattle.interrupt_followers.specs.Followers.{heard_transfer}
 use Rattle.interrupt.specs.Interrupt.{answer_conditions, answered, answer_call}
-use Rattle.interrupt_laws.specs.ReadingLaws.{sequence_place, tested_reading}
+use Rattle.interrupt_laws.specs.ReadingLaws.{sequence_place, message_place, tested_reading}
 use Rattle.interrupt_link.specs.Actions.{lmp_subtype, message_ops}
 use Rattle.interrupt_laws.specs.Standard.{lmp_word0, lmp_type, subtype_of, forces_accept, lmp_action, packet_sequence, ReportsBack}
 
@@ -70,6 +73,15 @@ module _ (kind subtype own : ℕ) (k : kind < 32) (l : subtype < 16) where
 -- So a link management packet is answered as the standard has it, with each of the sixteen subtypes and whatever field.
 pub packet_answered : (revision subtype own : ℕ) → subtype < 16 → message_ops revision (lmp_word0 lmp_type subtype own) ≡ lmp_action revision (subtype_of subtype) own
 packet_answered revision subtype own l = answered_by_subtype lmp_type subtype own (omega arith) l revision
+
+-- A call with a word, where it is accepted, writes that, and then what the other flags call for: an acknowledgement, or the link
+-- taken down by a message that timed out.
+pub message_call : (room : ℕ) (s : State) (v : Events) (w : ℕ) → first_refusal (answer_conditions room s v (reading.MessageWord w)) ≡ Ok tt
+    → (answer_call room s v (reading.MessageWord w)).ops ≡ message_ops s.revision w ++ behind_message_ops s.awaited.flags
+unfolding answer_call heard_link
+message_call room s v w e =
+    let k = accepted Err (answer_conditions room s v (reading.MessageWord w)) s v (answered s v (matched_as s.awaited.next (reading.MessageWord w))) e in
+    rw (k.1, message_place s.awaited.next w (tested_reading room s v (reading.MessageWord w) k.0).matches) (sym (settled_ops _ _ _ _))
 
 -- ---- sequence numbers
 

@@ -105,6 +105,11 @@ pub sequence_place : (a : Option Awaiting) (q : ℕ) → matchesb a (reading.Ep0
 unfolding every
 sequence_place a q h = eqb-true _ 10 (of_kind 8 (λ n. eqb n 10) refl a h)
 
+-- and a message's word the fifth
+pub message_place : (a : Option Awaiting) (w : ℕ) → matchesb a (reading.MessageWord w) ≡ true → awaiting_number a ≡ 5
+unfolding every
+message_place a w h = eqb-true _ 5 (of_kind 4 (λ n. eqb n 5) refl a h)
+
 -- what a reading leads to, by its place
 abbrev pub answered_at : State → Events → ℕ → Matched → Outcome (Result (Option Awaiting) Refusal)
 answered_at s v n m =

@@ -19,6 +19,7 @@ pub fn call(rt: &impl Print, list: &mut [u32; 640], world: World, line: &[u8]) -
         Word::Start => tool_calls_start::start(rt, world, line),
         Word::On => tool_calls_power::on(rt, list, world, line),
         Word::Off => tool_calls_power::off(rt, list, world),
+        Word::Wakeup => tool_calls_power::wakeup(rt, list, world),
         Word::Raise => tool_calls_bus::raise(rt, world, line),
         Word::Poll => tool_calls_bus::poll(rt, world),
         Word::Reset => tool_calls_bus::reset(rt, list, world),

@@ -4,7 +4,7 @@ use Prim.Native.String.{String}
 use Rattle.std.specs.Prelude.{List, [], ◌∷◌, map, ◌≡◌, refl}
 use Rattle.tool_lines.specs.Line.{fields, decimal, numberb}
 use Rattle.tool_words.specs.declared.Word.{Word}
-use Rattle.tool_words.specs.declared.Word.TheVariants.{Unfit, Driver, Allocate, Start, On, Off, Enable, Stall, Stalled, Enabled, Raise, Poll, Reset, Begin, Take, Abandon, Report, Move, Next, Setup, DataOut, TakeOut, DataIn, Accept, AcceptAddress, TakeIn, Reject, Generation, Show}
+use Rattle.tool_words.specs.declared.Word.TheVariants.{Unfit, Driver, Allocate, Start, On, Off, Enable, Stall, Stalled, Enabled, Raise, Poll, Reset, Wakeup, Begin, Take, Abandon, Report, Move, Next, Setup, DataOut, TakeOut, DataIn, Accept, AcceptAddress, TakeIn, Reject, Generation, Show}
 use Rattle.tool_words.specs.Words.{bytes, meaning_of}
 use Rattle.tool_scripts.specs.Script.{number_at, numbers_fit, read_call}
 
@@ -31,6 +31,7 @@ examples =
     ∷ "raise\t8" says Raise
     ∷ "poll" says Poll
     ∷ "reset" says Reset
+    ∷ "wakeup" says Wakeup
     ∷ "begin\t1\t2\t537001984\t1025\t1" says Begin
     ∷ "take\t1\t2" says Take
     ∷ "abandon\t1\t2" says Abandon
@@ -53,6 +54,7 @@ examples =
     ∷ "begin\t01\t00\t000000000000004294967295" says Begin
     -- one number more
     ∷ "off\t0" says Unfit
+    ∷ "wakeup\t0" says Unfit
     ∷ "stall\t1\t2\t1\t0" says Unfit
     ∷ "move\t1\t2\t0\t537001984\t1025\t1\t3\t1024" says Unfit
     ∷ "setup\t0" says Unfit

@@ -6,7 +6,7 @@ use Prim.Native.String.{String, [] as empty, ◌∷◌ as ◌before◌}
 use Rattle.tool_lines.specs.Line.{sameb}
 use Rattle.tool_words.specs.declared.Word.{Word}
 use Rattle.tool_words.specs.declared.Meant.{Meant}
-use Rattle.tool_words.specs.declared.Word.TheVariants.{Unfit, Driver, Allocate, Start, On, Off, Enable, Stall, Stalled, Enabled, Raise, Poll, Reset, Begin, Take, Abandon, Report, Move, Next, Setup, DataOut, TakeOut, DataIn, Accept, AcceptAddress, TakeIn, Reject, Generation, Interrupt, LinkFlags, LinkStatus, PortCapability, MessageWord, TransferStatus, SetupBytes, Ep0Length, Ep0Sequence, ChainPackets, LastLength, Show}
+use Rattle.tool_words.specs.declared.Word.TheVariants.{Unfit, Driver, Allocate, Start, On, Off, Enable, Stall, Stalled, Enabled, Raise, Poll, Reset, Wakeup, Begin, Take, Abandon, Report, Move, Next, Setup, DataOut, TakeOut, DataIn, Accept, AcceptAddress, TakeIn, Reject, Generation, Interrupt, LinkFlags, LinkStatus, PortCapability, MessageWord, TransferStatus, SetupBytes, Ep0Length, Ep0Sequence, ChainPackets, LastLength, Show}
 
 -- a text's bytes: each character here is ASCII
 abbrev pub bytes : String → List ℕ
@@ -37,7 +37,7 @@ driver_rows =
     ∷ "off" means Off taking 0
     ∷ []
 
--- orders and events
+-- orders, events, the host woken
 abbrev pub bus_rows : List Row
 bus_rows =
     "enable" means Enable taking 3
@@ -47,6 +47,7 @@ bus_rows =
     ∷ "raise" means Raise taking 1
     ∷ "poll" means Poll taking 0
     ∷ "reset" means Reset taking 0
+    ∷ "wakeup" means Wakeup taking 0
     ∷ []
 
 -- transfers, and sends and receives

@@ -21,6 +21,7 @@ pub enum Word {
     Raise,
     Poll,
     Reset,
+    Wakeup,
     Begin,
     Take,
     Abandon,
@@ -58,7 +59,7 @@ pub struct Meant {
 }
 
 // Each word, the call that it stands for, and how many numbers that takes at most.
-const WORDS: [(&str, Word, usize); 39] = [
+const WORDS: [(&str, Word, usize); 40] = [
     ("driver", Word::Driver, 2),
     ("allocate", Word::Allocate, 10),
     ("start", Word::Start, 1),
@@ -71,6 +72,7 @@ const WORDS: [(&str, Word, usize); 39] = [
     ("raise", Word::Raise, 1),
     ("poll", Word::Poll, 0),
     ("reset", Word::Reset, 0),
+    ("wakeup", Word::Wakeup, 0),
     ("begin", Word::Begin, 5),
     ("take", Word::Take, 2),
     ("abandon", Word::Abandon, 2),

@@ -32,6 +32,7 @@ pub data Call : Type 0 where
   IsEnabled : (endpoint : EndpointAddress) → Call
   Raise : (event : ℕ) → Call
   Poll : Call
+  Wakeup : (room : ℕ) → Call
   Begin : (room : ℕ) (endpoint : EndpointAddress) (piece : Piece) → Call
   Take : (endpoint : EndpointAddress) → Call
   Abandon : (room : ℕ) (endpoint : EndpointAddress) → Call
@@ -65,6 +66,7 @@ Gives (IsStalled endpoint) = Bool
 Gives (IsEnabled endpoint) = Bool
 Gives (Raise event) = Unit
 Gives Poll = Option Event
+Gives (Wakeup room) = Unit
 Gives (Begin room endpoint piece) = Unit
 Gives (Take endpoint) = Option ℕ
 Gives (Abandon room endpoint) = ℕ

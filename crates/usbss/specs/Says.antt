@@ -1,5 +1,6 @@
--- What a function of the face says, leaves and writes, as a call's outcome has it: one form for each type of result. Where a
--- function neither is lent the events nor gives them back, the outcome's are those of before (`events_stay`).
+-- What a function of the face says, leaves and writes, as a call's outcome has it: one form for each type of result. Raise and
+-- poll are lent the events, which a clause beside the form has; where a function neither is lent them nor gives them back, the
+-- outcome's are those of before (`events_stay`).
 -- Assumes nothing.
 use Rattle.std.specs.Prelude.{ℕ, ◌≡◌, List, Option, Result}
 use Rattle.ops.specs.Wrote.{Wrote}

@@ -9,6 +9,7 @@ use Rattle.bus_order.specs.Order.{order_call}
 use Rattle.bus_query.specs.Query.{stalled_call, enabled_call}
 use Rattle.bus_events.specs.Raise.{raise_call}
 use Rattle.bus_events.specs.Poll.{poll_call}
+use Rattle.bus_wakeup.specs.Wakeup.{wakeup_call}
 use Rattle.transfer_begin.specs.Begin.{begin_call}
 use Rattle.transfer_take.specs.Take.{take_call}
 use Rattle.transfer_abandon.specs.Abandon.{abandon_call}
@@ -26,7 +27,7 @@ use Rattle.control_take.specs.Take.{take_in_call}
 use Rattle.control_take_out.specs.TakeOut.{take_out_call}
 use Rattle.interrupt_begin.specs.Begin.{interrupt_call}
 use Rattle.interrupt.specs.Interrupt.{answer_call}
-use Rattle.usbss.specs.Call.{World, Call, Start, PowerOn, PowerOff, Ordered, IsStalled, IsEnabled, Raise, Poll, Begin, Take, Abandon, Send, Sent, Receive, Received, Setup, DataOut, DataIn, Accept, AcceptAddress, Reject, TakeOut, TakeIn, Interrupt, Answer, Answers}
+use Rattle.usbss.specs.Call.{World, Call, Start, PowerOn, PowerOff, Ordered, IsStalled, IsEnabled, Raise, Poll, Wakeup, Begin, Take, Abandon, Send, Sent, Receive, Received, Setup, DataOut, DataIn, Accept, AcceptAddress, Reject, TakeOut, TakeIn, Interrupt, Answer, Answers}
 
 -- A plain begin finds nothing wrong with its caller's bytes, and a plain take has room for any number of them.
 unfoldable pub step : World → (c : Call) → Outcome (Answers c)
@@ -38,6 +39,7 @@ step w (IsStalled endpoint) = stalled_call w.state w.events endpoint.index endpo
 step w (IsEnabled endpoint) = enabled_call w.state w.events endpoint.index endpoint.incoming
 step w (Raise event) = raise_call w.state w.events event
 step w Poll = poll_call w.state w.events
+step w (Wakeup room) = wakeup_call room w.state w.events
 step w (Begin room endpoint piece) = begin_call room w.state w.events endpoint.index endpoint.incoming piece false false
 step w (Take endpoint) = take_call w.state w.events endpoint.index endpoint.incoming false any_length
 step w (Abandon room endpoint) = abandon_call room w.state w.events endpoint.index endpoint.incoming

@@ -12,6 +12,7 @@ use Rattle.bus_power_on.specs.PowerOn.{power_on_call}
 use Rattle.bus_power_off.specs.PowerOff.{power_off_call}
 use Rattle.bus_order.specs.Order.{order_call}
 use Rattle.bus_query.specs.Query.{stalled_call, enabled_call}
+use Rattle.bus_wakeup.specs.Wakeup.{wakeup_call}
 use Rattle.transfer_begin.specs.Begin.{begin_call}
 use Rattle.transfer_take.specs.Take.{take_call}
 use Rattle.transfer_abandon.specs.Abandon.{abandon_call}
@@ -26,7 +27,7 @@ use Rattle.control_accept.specs.Accept.{accept_call, accept_address_call}
 use Rattle.control_reject.specs.Reject.{reject_call}
 use Rattle.control_take.specs.Take.{take_in_call}
 use Rattle.control_take_out.specs.TakeOut.{take_out_call}
-use Rattle.usbss.specs.Call.{World, Call, Start, PowerOn, PowerOff, Ordered, IsStalled, IsEnabled, Raise, Poll, Begin, Take, Abandon, Send, Sent, Receive, Received, Setup, DataOut, DataIn, Accept, AcceptAddress, Reject, TakeOut, TakeIn, Interrupt, Answer}
+use Rattle.usbss.specs.Call.{World, Call, Start, PowerOn, PowerOff, Ordered, IsStalled, IsEnabled, Raise, Poll, Wakeup, Begin, Take, Abandon, Send, Sent, Receive, Received, Setup, DataOut, DataIn, Accept, AcceptAddress, Reject, TakeOut, TakeIn, Interrupt, Answer}
 use Rattle.usbss.specs.Step.{step}
 
 -- the calls that are lent the events, or give them back
@@ -39,6 +40,7 @@ alters (IsStalled endpoint) = false
 alters (IsEnabled endpoint) = false
 alters (Raise event) = true
 alters Poll = true
+alters (Wakeup room) = false
 alters (Begin room endpoint piece) = false
 alters (Take endpoint) = false
 alters (Abandon room endpoint) = false
@@ -66,7 +68,7 @@ either true v o u h k = h
 either false v o u h k = k
 
 pub events_stay : (w : World) (c : Call) → alters c ≡ false → (step w c).events ≡ w.events
-unfolding step start_call power_on_call power_off_call order_call stalled_call enabled_call begin_call take_call abandon_call send_call sent_call receive_call received_call setup_call data_out_call data_in_call accept_call accept_address_call reject_call take_in_call take_out_call
+unfolding step start_call power_on_call power_off_call order_call stalled_call enabled_call wakeup_call begin_call take_call abandon_call send_call sent_call receive_call received_call setup_call data_out_call data_in_call accept_call accept_address_call reject_call take_in_call take_out_call
 events_stay w (Start driver size) h = absurd (cc)
 events_stay w (PowerOn room revision) h = kept Err _ w.state w.events _ refl
 events_stay w (PowerOff room) h = kept Err _ w.state w.events _ refl
@@ -75,6 +77,7 @@ events_stay w (IsStalled endpoint) h = kept Err _ w.state w.events _ refl
 events_stay w (IsEnabled endpoint) h = kept Err _ w.state w.events _ refl
 events_stay w (Raise event) h = absurd (cc)
 events_stay w Poll h = absurd (cc)
+events_stay w (Wakeup room) h = kept Err _ w.state w.events _ refl
 events_stay w (Begin room endpoint piece) h = kept Err _ w.state w.events _ refl
 events_stay w (Take endpoint) h = kept Err _ w.state w.events _ refl
 events_stay w (Abandon room endpoint) h = kept Err _ w.state w.events _ refl

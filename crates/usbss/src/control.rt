@@ -10,6 +10,7 @@ use control_stage::Stage;
 use state::{Events, State};
 use state_call::{Answered, Listed};
 
+// The SETUP packet that waits, and the generation that the stages of its transfer are to name.
 #[inline(always)]
 #[tactic(auto, unfolding(crate::specs::Step::step))]
 pub fn setup(state: State, events: Events) -> Answered<Option<Fetched>>
@@ -18,6 +19,7 @@ pub fn setup(state: State, events: Events) -> Answered<Option<Fetched>>
     control_setup::setup(state, events)
 }
 
+// Asks for a packet of the data stage from the host.
 #[inline(always)]
 #[tactic(auto, unfolding(crate::specs::Step::step))]
 pub fn data_out(ops: &mut [u32], state: State, events: Events, generation: u32) -> Listed<Stage>
@@ -26,6 +28,7 @@ pub fn data_out(ops: &mut [u32], state: State, events: Events, generation: u32) 
     control_out::data_out(ops, state, events, generation)
 }
 
+// Sends a packet of the data stage, copied into endpoint 0's buffer.
 #[inline(always)]
 #[tactic(auto, unfolding(crate::specs::Step::step))]
 pub fn data_in(
@@ -47,6 +50,7 @@ pub fn data_in(
     )
 }
 
+// Accepts the request: its status stage is due.
 #[inline(always)]
 #[tactic(auto, unfolding(crate::specs::Step::step))]
 pub fn accept(ops: &mut [u32], state: State, events: Events, generation: u32) -> Listed<Stage>
@@ -55,6 +59,7 @@ pub fn accept(ops: &mut [u32], state: State, events: Events, generation: u32) ->
     control_accept::accept(ops, state, events, generation)
 }
 
+// The same of SET_ADDRESS: the address takes hold once the status stage has ended.
 #[inline(always)]
 #[tactic(auto, unfolding(crate::specs::Step::step))]
 pub fn accept_address(
@@ -69,6 +74,7 @@ pub fn accept_address(
     control_accept::accept_address(ops, state, events, generation, address)
 }
 
+// Rejects the request: endpoint 0 answers STALL until the next SETUP.
 #[inline(always)]
 #[tactic(auto, unfolding(crate::specs::Step::step))]
 pub fn reject(ops: &mut [u32], state: State, events: Events, generation: u32) -> Listed<Stage>
@@ -77,6 +83,7 @@ pub fn reject(ops: &mut [u32], state: State, events: Events, generation: u32) ->
     control_reject::reject(ops, state, events, generation)
 }
 
+// The packet that has come, copied out; none while it is awaited.
 #[inline(always)]
 #[tactic(auto, unfolding(crate::specs::Step::step))]
 pub fn take_out(
@@ -93,6 +100,7 @@ pub fn take_out(
     control_take_out::take_out(state, events, generation, out, ep0, address)
 }
 
+// Whether the packet or the status stage is done; none while it is awaited.
 #[inline(always)]
 #[tactic(auto, unfolding(crate::specs::Step::step))]
 pub fn take_in(state: State, events: Events, generation: u32) -> Answered<Option<u32>>

@@ -12,6 +12,7 @@ use endpoint_choice::MoveRequest;
 use state::{Events, State};
 use state_call::{Answered, Listed};
 
+// Sends the next piece of the caller's bytes, out of their memory or by a copy in the endpoint's own buffer.
 #[inline(always)]
 #[tactic(auto, unfolding(crate::specs::Step::step))]
 pub fn send(
@@ -29,6 +30,7 @@ pub fn send(
     endpoint_send::send(ops, state, events, index, request, bytes, own)
 }
 
+// Whether the piece is sent, and how far the send is then.
 #[inline(always)]
 #[tactic(auto, unfolding(crate::specs::Step::step))]
 pub fn sent(
@@ -44,6 +46,7 @@ pub fn sent(
     endpoint_sent::sent(state, events, index, request, bytes, own)
 }
 
+// Has the next piece received, into the caller's memory or the endpoint's own buffer.
 #[inline(always)]
 #[tactic(auto, unfolding(crate::specs::Step::step))]
 pub fn receive(
@@ -60,6 +63,7 @@ pub fn receive(
     endpoint_receive::receive(ops, state, events, index, request, bytes, own)
 }
 
+// Whether the piece is received, and how far the receive is then; what came into the own buffer is copied out.
 #[inline(always)]
 #[tactic(auto, unfolding(crate::specs::Step::step))]
 pub fn received(

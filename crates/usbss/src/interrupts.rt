@@ -7,6 +7,7 @@ ghost use Rattle.usbss.specs.Step.{world, step};
 use interrupt_asks::InterruptResult;
 use state::{Events, Reading, State};
 
+// Begins an interrupt: says what is to be read first, or none while the device is off.
 #[inline(always)]
 #[tactic(auto, unfolding(crate::specs::Step::step))]
 pub fn interrupt(ops: &mut [u32], state: State, events: Events) -> InterruptResult
@@ -15,6 +16,7 @@ pub fn interrupt(ops: &mut [u32], state: State, events: Events) -> InterruptResu
     interrupt_begin::interrupt(ops, state, events)
 }
 
+// Hands in what was read: says what is to be read next, or that the interrupt is handled.
 #[inline(always)]
 #[tactic(auto, unfolding(crate::specs::Step::step))]
 pub fn answer(ops: &mut [u32], state: State, events: Events, reading: Reading) -> InterruptResult

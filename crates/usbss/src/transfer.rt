@@ -8,6 +8,7 @@ use state::{EndpointAddress, Events, State};
 use state_call::{Answered, Listed};
 use transfer_piece::{Faults, Piece};
 
+// Begins a transfer of a piece of memory on a data endpoint.
 #[inline(always)]
 #[tactic(auto, unfolding(crate::specs::Step::step))]
 pub fn begin(
@@ -22,6 +23,7 @@ pub fn begin(
     transfer_begin::begin(ops, state, events, endpoint, piece, Faults::default())
 }
 
+// What became of it: none while it is busy, else its bytes, and the endpoint is free again.
 #[inline(always)]
 #[tactic(auto, unfolding(crate::specs::Step::step))]
 pub fn take(state: State, events: Events, endpoint: EndpointAddress) -> Answered<Option<u32>>
@@ -30,6 +32,7 @@ pub fn take(state: State, events: Events, endpoint: EndpointAddress) -> Answered
     transfer_take::take(state, events, endpoint, false, u32::MAX)
 }
 
+// Cuts it; says for how many microseconds its memory isn't to be touched yet.
 #[inline(always)]
 #[tactic(auto, unfolding(crate::specs::Step::step))]
 pub fn abandon(

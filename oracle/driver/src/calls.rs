@@ -267,6 +267,7 @@ impl Calls {
                     _ => 0,
                 })
             }
+            "wakeup" if self.bus.is_none() && probe::device::control().0 == 0 => refused("25"),
             "wakeup" => match at_once(self.bus().remote_wakeup()) {
                 Ok(()) => done(0),
                 Err(_) => refused("25"),

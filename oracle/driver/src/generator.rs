@@ -110,6 +110,7 @@ impl Parts {
     const CONTROL: u64 = 2;
     /// Sends and receives.
     const MOVES: u64 = 4;
+    /// The host woken.
     const WAKEUP: u64 = 8;
     pub const ALL: Self = Self(15);
 
@@ -287,6 +288,7 @@ fn unstarted(random: &mut Random, script: &mut Script) {
             4 => joined("enabled", &[incoming, endpoint]),
             5 => joined("raise", &[an_event(random)]),
             6 => "state".into(),
+            7 if script.parts.has(Parts::WAKEUP) && script.calls.control().0 == 0 => "wakeup".into(),
             _ => joined("take", &[incoming, endpoint]),
         });
     }

@@ -126,7 +126,7 @@ fn main() -> ExitCode {
         return ExitCode::FAILURE;
     };
     let root = Path::new(root);
-    let script = output("calls_lines", &[seed.clone(), count.clone(), "7".into()], Vec::new());
+    let script = output("calls_lines", &[seed.clone(), count.clone()], Vec::new());
     let answers = output("calls_oracle", &[], script.clone());
     let place = env::temp_dir().join(format!("planted-{}", std::process::id()));
     copy(&root.join("crates"), &place.join("crates"));

@@ -1,14 +1,10 @@
--- The rows of two lists of calls, one behind the other, and the world that they leave. The most packets of a chain are the same
--- in every state.
+-- The rows of two lists of calls, one behind the other, and the world that they leave.
 -- Assumes nothing.
 use Rattle.std.specs.Prelude.{◌≡◌, refl, List, [], ◌∷◌, ◌++◌}
 use Rattle.std.proofs.Common.{ap}
-use Rattle.state.specs.Setters.{limit_of}
 use Rattle.usbss.specs.Call.{World, Call}
 use Rattle.usbss.specs.Step.{step}
 use Rattle.history_rows.specs.Rows.{Row, left_by, rows, final}
-use Rattle.history_rows.specs.Memory.{Memory}
-use Rattle.history_memory.specs.Remembered.{behind, recall}
 
 pub rows_split : (w : World) (before after : List Call) → rows w (before ++ after) ≡ rows w before ++ rows (final w before) after
 unfolding rows final
@@ -19,11 +15,3 @@ pub final_split : (w : World) (before after : List Call) → final w (before ++ 
 unfolding final
 final_split w [] after = refl
 final_split w (c ∷ before) after = final_split (left_by (step w c)) before after
-
-pub recall_split : (m : Memory) (before after : List Row) → recall m (before ++ after) ≡ recall (recall m before) after
-unfolding recall
-recall_split m [] after = refl
-recall_split m (r ∷ before) after = recall_split (behind m r) before after
-
-pub untouched_limit : (w : World) (c : Call) → limit_of (step w c).state ≡ limit_of w.state
-untouched_limit w c = refl

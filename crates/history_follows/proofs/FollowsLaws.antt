@@ -10,8 +10,8 @@ use Rattle.history_ideal.specs.Ideal.{Report}
 use Rattle.history_ideal.specs.Plan.{Planned}
 use Rattle.history_ideal.proofs.PlanLaws.{planned, not_yet, moved_within, moved_result}
 use Rattle.history_follows.specs.Follows.{Fits, BeginFollows, ReportFollows, slot_ideal, slot_by}
-use Rattle.history_follows.specs.SendingLaws.{begin_sends, report_sends}
-use Rattle.history_follows.specs.ReceivingLaws.{begin_receives, report_receives}
+use Rattle.history_follows.proofs.SendingLaws.{begin_sends, report_sends}
+use Rattle.history_follows.proofs.ReceivingLaws.{begin_receives, report_receives}
 
 module _ (lim : ℕ) (one : 0 < lim) where
   -- a begin that is accepted

@@ -1,0 +1,2 @@
+pub mod Wakeup
+pub mod WakeupLaws

@@ -1,0 +1,5 @@
+pub mod Lines
+pub mod Phrases
+pub mod Example
+pub mod Ready
+pub mod Wrong

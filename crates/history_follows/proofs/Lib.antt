@@ -1,0 +1,4 @@
+pub mod SendingLaws
+pub mod ReceivingLaws
+pub mod FollowsLaws
+pub mod FitsLaws
