@@ -1,13 +1,12 @@
 // One line of the listing: its transfer begun in a state of its own, and each of its chains reported.
 #![tactic(auto)]
 
-use ops::OpList;
-use state::{EndpointAddress, Events, State};
-use state_call::Listed;
 use state_slots::{is_busy, slot_at, slot_number};
 use tool_lines::Request;
-use transfer_chain::Report;
-use transfer_piece::Piece;
+use usbss::{EndpointAddress, Events, Listed, Piece, State};
+
+// No event is pending.
+const NO_EVENTS: Events = Events { events: 0 };
 
 pub fn line(rt: &impl Print, list: &mut [u32; 640], text: &[u8]) {
     match tool_lines::read_line(text) {
@@ -34,13 +33,12 @@ fn begun(
     endpoint: EndpointAddress,
 ) -> Listed<()> {
     let state = tool_listing_state::enabled(request, endpoint);
-    let events = Events { events: 0 };
     let piece = Piece {
         address: request.address,
         length: request.length,
         zlp: request.incoming && request.zlp,
     };
-    let begun = usbss::begin(list, state, events, endpoint, piece);
+    let begun = usbss::begin(list, state, NO_EVENTS, endpoint, piece);
     tool_print::operations(rt, list, begun.end);
     begun
 }
@@ -61,13 +59,9 @@ fn reports(
             tool_listing_answers::done(rt, endpoint.index as u32, slot.transfer.progress);
             return;
         }
-        let report = Report {
-            packets: 255,
-            last: request.max_packet_size,
-        };
-        let mut ops = OpList::new(list);
-        state = transfer_report::report(&mut ops, state, endpoint, report);
-        let end = ops.end;
-        tool_print::operations(rt, list, end);
+        let size = request.max_packet_size;
+        let told = tool_reports::report(list, state, NO_EVENTS, endpoint, 255, size);
+        state = told.state;
+        tool_print::operations(rt, list, told.end);
     }
 }

@@ -16,6 +16,14 @@ use Rattle.transfer_take.specs.Take.{take_call}
 use Rattle.transfer_abandon.specs.Abandon.{abandon_call}
 use Rattle.transfer_report.specs.Report.{report_state}
 use Rattle.transfer_chain.specs.Chains.{chain_packets, chain_bytes}
+use Rattle.interrupt_asks.specs.Settled.{settled}
+use Rattle.interrupt_begin.specs.Begin.{interrupt_call}
+use Rattle.interrupt_transfer.specs.Transfers.{status_turn}
+use Rattle.interrupt_readings.specs.Heard.{heard_link}
+use Rattle.interrupt_followers.specs.Followers.{heard_transfer}
+use Rattle.interrupt.specs.Interrupt.{answer_call}
+use Rattle.usbss.specs.Step.{step}
+use Rattle.tool_reports.specs.Reported.{begun, heard, chained}
 use Rattle.tool_tally_bus.specs.Layout.{driver_also, script_driver}
 use Rattle.tool_tally_bus.specs.Bus.{bench_started, bench_on, bench_off, bench_reset}
 use Rattle.tool_tally_steps.specs.Steps.{bench_ordered, bench_begun, bench_taken, bench_abandoned, bench_reported}
@@ -25,5 +33,5 @@ use Rattle.tool_tally.specs.Script.{bench_anew, script_state}
 use Rattle.tool_tally.specs.Tallies.{tallies_of, script_tallies}
 
 pub tallied : tallies_of script_state ≡ script_tallies
-unfolding script_driver driver_also allocate_result allocate_check placed lowest driver_soundb allocationsb memoryb configb or_else every bench_on bench_started power_on_call start_call started_slots change_from soundb ownb awaitedb slotsb slotb useb transferb outb busy_clausesb bench_ordered order_call bench_begun begin_call bench_taken take_call bench_abandoned abandon_call bench_reported report_state chain_packets chain_bytes div_ceil bench_in_use bench_images bench_answers bench_small_in bench_small_out bench_transfers bench_anew script_state bench_off power_off_call bench_reset
+unfolding script_driver driver_also allocate_result allocate_check placed lowest driver_soundb allocationsb memoryb configb or_else every bench_on bench_started power_on_call start_call started_slots change_from soundb ownb awaitedb slotsb slotb useb transferb outb busy_clausesb bench_ordered order_call bench_begun begin_call bench_taken take_call bench_abandoned abandon_call bench_reported begun heard chained step interrupt_call answer_call settled heard_link heard_transfer status_turn report_state chain_packets chain_bytes div_ceil bench_in_use bench_images bench_answers bench_small_in bench_small_out bench_transfers bench_anew script_state bench_off power_off_call bench_reset
 tallied = refl

@@ -5,7 +5,6 @@ ghost use Rattle.std.specs.Prelude.{◌≡◌};
 ghost use Rattle.tool_tally_parts.specs.Parts.{bench_in_use, bench_images, bench_answers};
 
 use tool_tally_steps::{Bench, receiving, sending};
-use transfer_chain::Report;
 
 #[tactic(auto, unfolding(crate::specs::Parts::bench_in_use))]
 pub fn in_use(bench: &mut Bench)
@@ -35,11 +34,7 @@ pub fn answers(bench: &mut Bench)
     ensures { bench.new ≡ bench_answers bench.old }
 {
     bench.receive(1, 4096, 2, 1024);
-    let last = Report {
-        packets: 9,
-        last: 100,
-    };
-    bench.report(receiving(1), last);
+    bench.report(receiving(1), 9, 100);
     bench.take(receiving(1));
     bench.receive(1, 2048, 1, 1024);
 }

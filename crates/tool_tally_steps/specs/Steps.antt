@@ -11,7 +11,7 @@ use Rattle.transfer_piece.specs.declared.Piece.{Piece}
 use Rattle.transfer_begin.specs.Begin.{begin_call}
 use Rattle.transfer_take.specs.Take.{take_call}
 use Rattle.transfer_abandon.specs.Abandon.{abandon_call}
-use Rattle.transfer_report.specs.Report.{report_state, report_ops}
+use Rattle.tool_reports.specs.Reported.{reported, list_reported}
 use Rattle.tool_tally_steps.specs.declared.Bench.{Bench}
 
 -- the power alone is pending, throughout
@@ -41,12 +41,12 @@ bench_taken e incoming b = record b { state = (take_call b.state power_pending e
 unfoldable pub bench_abandoned : ℕ → Bool → Bench → Bench
 bench_abandoned e incoming b = left_by b (abandon_call 640 b.state power_pending e incoming)
 
--- the end of a chain
+-- the end of a chain, reported by an interrupt
 unfoldable pub bench_reported : ℕ → Bool → ℕ → ℕ → Bench → Bench
 bench_reported e incoming packets last b =
     record {
-      list = sets b.list 0 (flat (report_ops b.state e incoming packets last));
-      state = report_state b.state e incoming packets last;
+      list = list_reported b.state power_pending e incoming packets last b.list;
+      state = (reported b.state power_pending e incoming packets last).state;
     }
 
 -- a transfer whose first chain has ended

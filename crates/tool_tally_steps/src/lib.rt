@@ -5,9 +5,7 @@ ghost use Rattle.std.specs.Prelude.{◌≡◌, true, false};
 ghost use Rattle.bus_endpoint.specs.declared.Order.TheVariants.{Enable, Stall};
 ghost use Rattle.tool_tally_steps.specs.Steps.{power_pending, bench_ordered, bench_begun, bench_taken, bench_abandoned, bench_reported, bench_sent, bench_received};
 
-use ops::OpList;
 use state::{EndpointAddress, Events, State};
-use transfer_chain::Report;
 use transfer_piece::Piece;
 
 // Where the buffers of the transfers lie.
@@ -97,11 +95,12 @@ impl Bench {
     }
 
     #[tactic(auto, unfolding(crate::specs::Steps::bench_reported))]
-    pub fn report(&mut self, endpoint: EndpointAddress, report: Report)
-        ensures { self.new ≡ bench_reported endpoint.index endpoint.incoming report.packets report.last self.old }
+    pub fn report(&mut self, endpoint: EndpointAddress, packets: u32, last: u32)
+        ensures { self.new ≡ bench_reported endpoint.index endpoint.incoming packets last self.old }
     {
-        let mut ops = OpList::new(&mut self.list);
-        self.state = transfer_report::report(&mut ops, self.state, endpoint, report);
+        let list = &mut self.list;
+        let told = tool_reports::report(list, self.state, pending(), endpoint, packets, last);
+        self.state = told.state;
     }
 
     // Begun, and its first chain reported.
@@ -109,17 +108,13 @@ impl Bench {
         ensures { self.new ≡ bench_sent index length self.old }
     {
         self.begin(sending(index), length);
-        let told = Report {
-            packets: 0,
-            last: 0,
-        };
-        self.report(sending(index), told);
+        self.report(sending(index), 0, 0);
     }
 
     pub fn receive(&mut self, index: u8, length: u32, packets: u32, last: u32)
         ensures { self.new ≡ bench_received index length packets last self.old }
     {
         self.begin(receiving(index), length);
-        self.report(receiving(index), Report { packets, last });
+        self.report(receiving(index), packets, last);
     }
 }
