@@ -2,21 +2,24 @@
 #![tactic(auto)]
 
 ghost use Rattle.std.specs.Prelude.{◌≡◌};
-ghost use Rattle.tool_answers.specs.Answers.{answer_numbers};
+ghost use Rattle.tool_answers.specs.Answers.{answer_numbers, answer_text, busy_text, more_text, not_allocated_text, unfit_text};
 
 use state::{Refusal, Wakes};
 use state_slots::waking::no_wakes;
 use tool_print::Line;
 
 pub fn answer(rt: &impl Print, said: Result<u32, Refusal>, wakes: Wakes) {
+    answer_line(said, wakes).print(rt);
+}
+
+fn answer_line(said: Result<u32, Refusal>, wakes: Wakes) -> Line<60>
+    ensures { result ≡ answer_text said wakes }
+{
     let (number, value) = numbers(said);
-    let mut line = Line::<60>::new();
-    line.text(b"answer");
-    line.cell(number);
-    line.cell(value);
-    line.cell(wakes.bus as u32);
-    line.cell(wakes.slots as u32);
-    line.print(rt);
+    Line::row(
+        b"answer",
+        &[number, value, wakes.bus as u32, wakes.slots as u32],
+    )
 }
 
 // The number and the value that are printed of an answer.
@@ -40,20 +43,44 @@ pub fn refused(rt: &impl Print, refusal: Refusal) {
 
 // A take that has to wait.
 pub fn busy(rt: &impl Print) {
-    let _ = println!(rt; "answer\tbusy\t0\t0\t0");
+    busy_line().print(rt);
+}
+
+fn busy_line() -> Line<50>
+    ensures { result ≡ busy_text }
+{
+    Line::row(b"answer\tbusy", &[0, 0, 0])
 }
 
 // A send or receive that went on to its next piece.
 pub fn more(rt: &impl Print, wakes: Wakes) {
-    let _ = println!(rt; "answer\tmore\t0\t{}\t{}", wakes.bus as u32, wakes.slots);
+    more_line(wakes).print(rt);
+}
+
+fn more_line(wakes: Wakes) -> Line<50>
+    ensures { result ≡ more_text wakes }
+{
+    Line::row(b"answer\tmore", &[0, wakes.bus as u32, wakes.slots as u32])
 }
 
 // An allocation that is refused: the Rust has one error for its five numbers.
 pub fn not_allocated(rt: &impl Print) {
-    let _ = println!(rt; "answer\trefused\t0\t0\t0");
+    not_allocated_line().print(rt);
+}
+
+fn not_allocated_line() -> Line<50>
+    ensures { result ≡ not_allocated_text }
+{
+    Line::row(b"answer\trefused", &[0, 0, 0])
 }
 
 // A line that can't be read; nothing is done.
 pub fn unfit(rt: &impl Print) {
-    let _ = println!(rt; "unfit");
+    let _ = rt.write_all(unfit_line());
+}
+
+fn unfit_line() -> &'static [u8]
+    ensures { result.now ≡ unfit_text }
+{
+    b"unfit\n"
 }

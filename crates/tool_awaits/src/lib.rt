@@ -1,14 +1,31 @@
 // The line that says which reading is awaited.
 #![tactic(auto)]
 
+ghost use Rattle.std.specs.Prelude.{◌≡◌, ◌≤◌, length};
+ghost use Rattle.tool_awaits.specs.Awaits.{longest, awaited_name, awaits_text};
+
 use state::Awaiting;
+use tool_print::Line;
 
 pub fn awaits(rt: &impl Print, next: Option<Awaiting>) {
-    let _ = println!(rt; "awaits\t{}", name(next));
+    awaits_line(next).print(rt);
+}
+
+fn awaits_line(next: Option<Awaiting>) -> Line<30>
+    ensures { result ≡ awaits_text next }
+{
+    let mut line = Line::new();
+    line.text(b"awaits\t");
+    line.text(name(next).as_bytes());
+    line.end();
+    line
 }
 
 // The link's status is one reading, at whichever place it is asked.
-fn name(next: Option<Awaiting>) -> &'static str {
+fn name(next: Option<Awaiting>) -> &'static str
+    ensures name { result.now ≡ awaited_name next }
+    ensures has_room { length result.now ≤ longest }
+{
     match next {
         None => "nothing",
         Some(Awaiting::LinkFlags) => "link_flags",

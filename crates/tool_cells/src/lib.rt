@@ -1,10 +1,19 @@
 // A number behind its tab, on standard output.
 #![tactic(auto)]
 
+ghost use Rattle.std.specs.Prelude.{◌≡◌, ◌++◌, decimal};
+ghost use Rattle.tool_print.specs.Text.{tab};
+
 use tool_print::Line;
 
 pub fn number(rt: &impl Print, n: u32) {
-    let mut line = Line::<11>::new();
+    cell(n).print(rt);
+}
+
+fn cell(n: u32) -> Line<11>
+    ensures { result ≡ tab ++ decimal n }
+{
+    let mut line = Line::new();
     line.cell(n);
-    let _ = rt.write_all(line.as_bytes());
+    line
 }

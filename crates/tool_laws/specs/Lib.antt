@@ -10,5 +10,6 @@ pub mod WordsLaws
 pub mod NamesLaws
 pub mod Text
 pub mod TextLaws
+pub mod PrintedLaws
 pub mod Sums
 pub mod SumsLaws

@@ -1,4 +1,4 @@
--- Text stored in a buffer, or put behind text.
+-- Text stored in a buffer.
 -- Assumes nothing.
 use Rattle.std.specs.Prelude.{ℕ, ◌+◌, ◌-◌, ◌≤◌, ◌≡◌, List, [], ◌++◌, length, take, drop}
 use Rattle.std.proofs.Common.{sym, append_assoc, append-nil, arith, length-drop, drop_of_length-le, take_all, drop-drop}
@@ -8,7 +8,6 @@ use borrow.Rule.Slice.PartMut.{mid_of, put_mid}
 use Rattle.io.specs.Digits.{last_digits, IsDigitCount}
 use Rattle.ops.specs.Stores.{Stored}
 use Rattle.ops.specs.StoresLaws.{stored_same}
-use Rattle.tool_print.specs.Text.{NumberBehind}
 use Rattle.tool_laws.specs.Text.{NumberStored}
 
 -- bytes at the start of the part of a buffer from `at` on are bytes of the buffer at `at`
@@ -29,7 +28,3 @@ pub number_stored : (l l' a : List ℕ) (at n k r : ℕ) → Stored l at a r l' 
 number_stored l l' a at n k r s e h few =
     let count : r - at ≡ k = omega (arith, s.end, h) in
     record { fewest = rw count few; text = rw count (stored_same e s) }
-
--- the same, of a number put behind text
-pub number_behind : (before after a : List ℕ) (n k : ℕ) → after ≡ before ++ a → a ≡ last_digits 10 k n → IsDigitCount 10 1 n k → NumberBehind before n after
-number_behind before after a n k s e few = record { count = k; fewest = few; text = rw e at s }

@@ -1,10 +1,19 @@
--- Text put behind text.
+-- Text that is printed, in ASCII.
 -- Assumes nothing.
-use Rattle.std.specs.Prelude.{ℕ, ◌≡◌, List, ◌++◌}
-use Rattle.io.specs.Digits.{last_digits, IsDigitCount}
+use Rattle.std.specs.Prelude.{ℕ, List, [], ◌∷◌, ◌++◌, decimal}
 
--- the decimal digits of n, as few as hold it, stand behind what was there before
-pub record NumberBehind (before : List ℕ) (n : ℕ) (after : List ℕ) : Type 0 where
-  pub count : ℕ
-  pub fewest : IsDigitCount 10 1 n count
-  pub text : after ≡ before ++ last_digits 10 count n
+abbrev pub tab : List ℕ
+tab = 9 ∷ []
+
+-- the end of a line
+abbrev pub line_feed : List ℕ
+line_feed = 10 ∷ []
+
+-- a text and numbers behind it, each behind a tab, in as few decimal digits as hold it
+abbrev pub cells : List ℕ → List ℕ → List ℕ
+cells text [] = text
+cells text (n ∷ numbers) = cells (text ++ tab ++ decimal n) numbers
+
+-- a line of a text and numbers
+abbrev pub row : List ℕ → List ℕ → List ℕ
+row text numbers = cells text numbers ++ line_feed

@@ -1,6 +1,6 @@
 // The text of a line of output, in a buffer of its own.
-ghost use Rattle.std.specs.Prelude.{ℕ, ◌≡◌, ◌+◌, ◌≤◌, List, [], ◌∷◌, ◌++◌, length, take};
-ghost use Rattle.tool_print.specs.Text.{NumberBehind};
+ghost use Rattle.std.specs.Prelude.{ℕ, ◌≡◌, ◌+◌, ◌*◌, ◌≤◌, List, [], ◌++◌, length, take, decimal};
+ghost use Rattle.tool_print.specs.Text.{tab, line_feed, cells, row};
 
 use std::marker::Model;
 
@@ -28,6 +28,18 @@ impl<const N: usize> Line<N> {
         }
     }
 
+    // A whole line of a text and numbers, each behind its tab.
+    pub fn row(text: &[u8], numbers: &[u32]) -> Self
+        requires { length text.now + 11 * length numbers.now + 1 ≤ N }
+        ensures { result ≡ row text.now numbers.now }
+    {
+        let mut line = Line::new();
+        line.text(text);
+        line.cells(numbers);
+        line.end();
+        line
+    }
+
     pub fn text(&mut self, bytes: &[u8])
         requires { length self.old + length bytes.now ≤ N }
         ensures text { self.new ≡ self.old ++ bytes.now }
@@ -42,7 +54,7 @@ impl<const N: usize> Line<N> {
     // A number's digits: no fewer would do, and ten always do.
     pub fn number(&mut self, n: u32)
         requires { length self.old + 10 ≤ N }
-        ensures digits { NumberBehind self.old n self.new }
+        ensures digits { self.new ≡ self.old ++ decimal n }
         ensures len { length self.new ≤ length self.old + 10 }
     {
         let mut digits = [0u8; 20];
@@ -53,11 +65,30 @@ impl<const N: usize> Line<N> {
     // A number behind its tab.
     pub fn cell(&mut self, n: u32)
         requires { length self.old + 11 ≤ N }
-        ensures digits { NumberBehind (self.old ++ 9 ∷ []) n self.new }
+        ensures digits { self.new ≡ self.old ++ tab ++ decimal n }
         ensures len { length self.new ≤ length self.old + 11 }
     {
         self.text(b"\t");
         self.number(n);
+    }
+
+    // Numbers, each behind its tab.
+    pub fn cells(&mut self, numbers: &[u32])
+        requires { length self.old + 11 * length numbers.now ≤ N }
+        ensures digits { self.new ≡ cells self.old numbers.now }
+        ensures len { length self.new ≤ length self.old + 11 * length numbers.now }
+    {
+        for n in numbers {
+            self.cell(*n);
+        }
+    }
+
+    // The line's end.
+    pub fn end(&mut self)
+        requires { length self.old + 1 ≤ N }
+        ensures { self.new ≡ self.old ++ line_feed }
+    {
+        self.text(b"\n");
     }
 
     // What was put, to be written.
@@ -67,11 +98,8 @@ impl<const N: usize> Line<N> {
         &self.bytes[..self.len]
     }
 
-    // Ends the line and writes it. As in the programs, a write that fails is passed over.
-    pub fn print(mut self, rt: &impl Print)
-        requires { length self + 1 ≤ N }
-    {
-        self.text(b"\n");
+    // Writes what was put. As in the programs, a write that fails is passed over.
+    pub fn print(&self, rt: &impl Print) {
         let _ = rt.write_all(self.as_bytes());
     }
 }

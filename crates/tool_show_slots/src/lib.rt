@@ -1,18 +1,35 @@
 // A line for each slot, as docs/REPLAY.md has it.
 #![tactic(auto)]
 
+ghost use Rattle.std.specs.Prelude.{◌≡◌};
+ghost use Rattle.tool_show_slots.specs.Lines.{phase_number, kind_number, configured, held, slot_text};
+
 use state::{EndpointConfig, EndpointType, Phase, Slot, State};
+use tool_print::Line;
 
 pub fn lines(rt: &impl Print, state: State) {
     for (i, slot) in state.endpoints.iter().enumerate() {
-        line(rt, i as u32, *slot);
+        line(i as u32, *slot).print(rt);
     }
 }
 
-fn line(rt: &impl Print, i: u32, slot: Slot) {
-    let [kind, size, interval, burst, buffer, room] = configured(slot.config);
-    let _ = println!(rt;
-        "slot\t{i}\t{}\t{}\t{}\t{}\t{}\t{}\t{}\t{}\t{kind}\t{size}\t{interval}\t{burst}\t{buffer}\t{room}",
+fn line(i: u32, slot: Slot) -> Line<180>
+    ensures { result ≡ slot_text i slot }
+{
+    let mut line = Line::new();
+    line.text(b"slot");
+    line.cells(&held(i, slot));
+    line.cells(&configured(slot.config));
+    line.end();
+    line
+}
+
+// What a slot has besides what it was allocated with.
+fn held(i: u32, slot: Slot) -> [u32; 9]
+    ensures { result ≡ held i slot }
+{
+    [
+        i,
         slot.config.is_some() as u32,
         slot.enabled as u32,
         slot.stalled as u32,
@@ -21,10 +38,12 @@ fn line(rt: &impl Print, i: u32, slot: Slot) {
         slot.transfer.length,
         slot.transfer.progress,
         slot.transfer.zlp as u32,
-    );
+    ]
 }
 
-fn phase_number(phase: Phase) -> u32 {
+fn phase_number(phase: Phase) -> u32
+    ensures { result ≡ phase_number phase }
+{
     match phase {
         Phase::Idle => 0,
         Phase::Busy => 1,
@@ -33,7 +52,9 @@ fn phase_number(phase: Phase) -> u32 {
 }
 
 // Zeros where nothing is configured.
-fn configured(config: Option<EndpointConfig>) -> [u32; 6] {
+fn configured(config: Option<EndpointConfig>) -> [u32; 6]
+    ensures { result ≡ configured config }
+{
     match config {
         Some(config) => [
             kind_number(config.ep_type),
@@ -47,7 +68,9 @@ fn configured(config: Option<EndpointConfig>) -> [u32; 6] {
     }
 }
 
-fn kind_number(kind: EndpointType) -> u32 {
+fn kind_number(kind: EndpointType) -> u32
+    ensures { result ≡ kind_number kind }
+{
     match kind {
         EndpointType::Control => 0,
         EndpointType::Isochronous => 1,

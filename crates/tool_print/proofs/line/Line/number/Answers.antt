@@ -1,25 +1,29 @@
--- A number of 32 bits has no more than ten digits.
-use Rattle.std.proofs.Common.{ℕ, ◌-◌, ◌^◌, ◌≤◌, ◌<◌, Bool, true, false, ◌≡◌, refl, leb, leb-true, leb-false, arith, length-take}
-use Rattle.std.proofs.Math.Nat.{pow-le-pow_right}
-use Rattle.io.specs.Digits.{IsDigitCount}
+-- What is put is the number's text, which has no more than ten digits.
+use Rattle.std.proofs.Common.{ℕ, ◌^◌, ◌≤◌, ◌<◌, ◌≡◌, ◌∙◌, ap, arith, List, length, decimal}
+use Rattle.std.proofs.lemmas.Fmt.{length-decimal-le}
+use Rattle.io.specs.Digits.{last_digits, IsDigitCount}
+use Rattle.tool_print.proofs.DecimalLaws.{fewest_digits}
 use Rattle.tool_print.proofs.line.Line.number.Goals as goal
 
-ten_digits : (n k : ℕ) → n < 2 ^ 32 → IsDigitCount 10 1 n k → k ≤ 10
-ten_digits n k small few = go (leb k 10) refl
-  where
-    go : (t : Bool) → leb k 10 ≡ t → k ≤ 10
-    go true e = leb-true k 10 e
-    go false e =
-        let more : 10 < k = leb-false k 10 e in
-        let large : 10 ^ 10 ≤ 10 ^ (k - 1) = pow-le-pow_right {n = 10} (omega arith) {i = 10} {j = k - 1} (omega arith) in
-        omega (arith, small, large, few.2 (omega arith))
+digits_put : (text : List ℕ) (n k : ℕ) → n < 2 ^ 32 → IsDigitCount 10 1 n k → text ≡ last_digits 10 k n → (text ≡ decimal n) × (length text ≤ 10)
+digits_put text n k small few e =
+    let all : text ≡ decimal n = e ∙ fewest_digits k n (omega arith) few in
+    (all, omega (arith, ap length all, length-decimal-le 10 n (omega arith) (omega arith) (omega arith)))
 
 pub text-requires : goal.text-requires
 text-requires g c =
     let d = c.decimal-count in
-    omega (arith, ten_digits c.args.n d.result c.ranges.n.fits d.ensures.len, length-take d.result d.new.out)
+    let put = digits_put _ _ _ c.ranges.n.fits d.ensures.len d.ensures.digits in
+    omega (arith, put.1)
+
+pub returns-clause-digits : goal.returns-clause-digits
+returns-clause-digits g c =
+    let d = c.decimal-count in
+    let put = digits_put _ _ _ c.ranges.n.fits d.ensures.len d.ensures.digits in
+    rw (c.text.ensures.text, put.0)
 
 pub returns-clause-len : goal.returns-clause-len
 returns-clause-len g c =
     let d = c.decimal-count in
-    omega (arith, c.text.ensures.len, ten_digits c.args.n d.result c.ranges.n.fits d.ensures.len, length-take d.result d.new.out)
+    let put = digits_put _ _ _ c.ranges.n.fits d.ensures.len d.ensures.digits in
+    omega (arith, c.text.ensures.len, put.1)
