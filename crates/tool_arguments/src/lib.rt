@@ -3,7 +3,7 @@
 #![tactic(auto)]
 
 ghost use Rattle.std.specs.Prelude.{◌≡◌};
-ghost use Rattle.tool_arguments.specs.Arguments.{byte_at, flag_at};
+ghost use Rattle.tool_arguments.specs.Arguments.{byte_at, half_at, flag_at};
 
 use state::EndpointAddress;
 
@@ -11,6 +11,12 @@ pub fn byte(line: &[u8], k: usize) -> u8
     ensures { result ≡ byte_at line.now k }
 {
     tool_scripts::number_up_to(line, k, u8::MAX as u32) as u8
+}
+
+pub fn half(line: &[u8], k: usize) -> u16
+    ensures { result ≡ half_at line.now k }
+{
+    tool_scripts::number_up_to(line, k, u16::MAX as u32) as u16
 }
 
 // What a line's first two numbers say: IN or OUT, and the endpoint.

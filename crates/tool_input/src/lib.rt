@@ -1,13 +1,15 @@
 // An input, line by line, through a buffer. A line that doesn't leave the buffer a free byte is too long.
 #![tactic(auto)]
 
-ghost use Rattle.std.specs.Prelude.{◌≡◌, ◌≤◌, ◌<◌};
+mod lent;
 
+ghost use Rattle.std.specs.Prelude.{◌≡◌, ◌≤◌};
+
+pub use lent::{Found, Next, Reader, at_start, next_line};
 use std::io::Read;
-use tool_reader::line_from;
 
-// The buffer's bytes from `from` up to `end` came from the input and haven't been given out.
-#[derive(Drop)]
+// An input with a buffer of its own, whose bytes from `from` up to `end` came from it and haven't been given out.
+#[derive(Clone, Copy)]
 pub struct Input {
     buffer: [u8; 4096],
     from: usize,
@@ -33,65 +35,17 @@ impl Input {
 
     // The next line, its line feed left out. The last one may have none.
     pub fn next_line(&mut self, source: &mut impl Read) -> Option<Result<&[u8], TooLong>> {
-        for _ in 0..u64::MAX {
-            if let Some(line) = line_from(&self.buffer[..self.end], self.from) {
-                self.from = line.next;
-                return Some(Ok(&self.buffer[line.start..line.stop]));
-            }
-            self.keep();
-            if self.end == self.buffer.len() {
-                self.skip(source);
-                return Some(Err(TooLong));
-            }
-            let held = self.end;
-            self.fill(source);
-            if self.end == held {
-                self.from = 0;
-                self.end = 0;
-                return if held == 0 {
-                    None
-                } else {
-                    Some(Ok(&self.buffer[..held]))
-                };
-            }
+        let reader = Reader {
+            from: self.from,
+            end: self.end,
+        };
+        let next = next_line(source, &mut self.buffer, reader);
+        self.from = next.reader.from;
+        self.end = next.reader.end;
+        match next.found {
+            Found::Line => Some(Ok(&self.buffer[next.start..next.stop])),
+            Found::TooLong => Some(Err(TooLong)),
+            Found::Ended => None,
         }
-        None
-    }
-
-    // Leaves out what comes up to the next line feed.
-    fn skip(&mut self, source: &mut impl Read) {
-        for _ in 0..u64::MAX {
-            self.from = 0;
-            self.end = 0;
-            self.fill(source);
-            if self.end == 0 {
-                return;
-            }
-            if let Some(line) = line_from(&self.buffer[..self.end], 0) {
-                self.from = line.next;
-                return;
-            }
-        }
-    }
-
-    // Reads into the buffer behind what is held. A read that fails is the input's end, and one without room would pass
-    // for it.
-    fn fill(&mut self, source: &mut impl Read)
-        requires { self.old.end < 4096 }
-        ensures { self.old.end ≤ self.new.end }
-    {
-        match source.read(&mut self.buffer[self.end..]) {
-            Ok(n) => self.end += n,
-            Err(_) => {}
-        }
-    }
-
-    // Moves what is held to the buffer's start.
-    fn keep(&mut self)
-        ensures { self.new.from ≡ 0 }
-    {
-        self.buffer.copy_within(self.from..self.end, 0);
-        self.end -= self.from;
-        self.from = 0;
     }
 }

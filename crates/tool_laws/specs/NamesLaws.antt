@@ -8,7 +8,7 @@ use Rattle.ops.specs.Stores.{Stored}
 use Rattle.ops.specs.StoresLaws.{next, stored_same}
 use Rattle.tool_rows.specs.Bytes.{bytes, name_of}
 use Rattle.tool_rows.specs.Rows.{name_at, right}
-use Rattle.tool_rows.specs.RowsLaws.{right_at}
+use Rattle.tool_rows.specs.RowsLaws.{named_at}
 
 pub past_rows : (rows : List (Bor (List ℕ))) (n : ℕ) → length rows ≤ n → [] ≡ name_at rows n
 unfolding name_at
@@ -19,7 +19,7 @@ past_rows (name ∷ rows) (suc n) h = past_rows rows n (omega (arith, h))
 -- what the test of a table from number i on shows of its number k
 pub row_at : (names : List (ℕ × String)) (rows : List (Bor (List ℕ))) (i k : ℕ) →
     T (right names i rows) → name_at rows k ≡ bytes (name_of (i + k) names)
-row_at names rows i k t = (right_at names rows i k t).0
+row_at names rows i k t = named_at names rows i k t
 
 -- one byte of a name more
 pub byte_more : {l l' : List ℕ} {i : ℕ} (name : List ℕ) (n : ℕ) → n < length name →

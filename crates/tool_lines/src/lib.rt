@@ -12,6 +12,9 @@ pub use fields::Fields;
 
 const LINE_FEED: u8 = 10;
 
+// How many bytes are asked at once whether one of them is the byte that is looked for.
+const PART: usize = 16;
+
 // What a line asks for: a transfer of `length` bytes from or to `address`, over an endpoint with its own buffer.
 #[derive(Clone, Copy, PartialEq, Eq)]
 pub struct Request {
@@ -35,8 +38,24 @@ pub fn line_end(bytes: &[u8], from: usize) -> usize
     }
 }
 
-// The first position of a byte, if it is there.
+// The first position of a byte, if it is there. Parts without it are passed over whole, for speed.
+#[tactic(auto, using(std::proofs::lemmas::Bool::Decides::nat_tests))]
 fn position(bytes: &[u8], byte: u8) -> Option<usize>
+    ensures { result ≡ position (λ b. b == byte) bytes.now }
+{
+    let mut rest = bytes;
+    while PART <= rest.len() {
+        let (part, others) = rest.split_at(PART);
+        if part.contains(&byte) {
+            break;
+        }
+        rest = others;
+    }
+    Some(bytes.len() - rest.len() + first(rest, byte)?)
+}
+
+// The same, byte by byte.
+fn first(bytes: &[u8], byte: u8) -> Option<usize>
     ensures { result ≡ position (λ b. b == byte) bytes.now }
 {
     bytes.iter().position(|b| *b == byte)

@@ -1,5 +1,5 @@
 -- Tables of names: the place of a name is its number. One test, computed over a whole table, shows that each has the name of
--- its number, and that it has room.
+-- its number, and another that each has room.
 -- Assumes nothing.
 use Rattle.std.specs.Prelude.{ℕ, zero, suc, Bool, true, ◌&&◌, List, [], ◌∷◌, ltb, leb, length}
 use Rattle.std.specs.Borrow.{Bor}
@@ -18,7 +18,12 @@ abbrev pub all_below : ℕ → List (ℕ × String) → Bool
 all_below n [] = true
 all_below n ((k, name) ∷ names) = ltb k n && all_below n names
 
--- the test of a table from number i on: each name is that of its number, has room, and there are none past the last
+-- the test of a table from number i on: each name is that of its number, and there are none past the last
 abbrev pub right : List (ℕ × String) → ℕ → List (Bor (List ℕ)) → Bool
 right names i [] = all_below i names
-right names i (name ∷ rows) = (bytes_eq name.now (bytes (name_of i names)) && leb (length name.now) room) && right names (suc i) rows
+right names i (name ∷ rows) = bytes_eq name.now (bytes (name_of i names)) && right names (suc i) rows
+
+-- the test of a table's room: no name has more bytes than that
+abbrev pub roomy : List (Bor (List ℕ)) → Bool
+roomy [] = true
+roomy (name ∷ rows) = leb (length name.now) room && roomy rows
